@@ -1,0 +1,55 @@
+// A member and a vehicle as their files hold them.
+
+// The places of a member's sixteen numbers, in the file's order.
+pub const KIND: usize = 0;
+
+pub const SPECIES: usize = 1;
+
+pub const SPAN: usize = 2;
+
+pub const SPACING: usize = 3;
+
+pub const DISTANCE: usize = 4;
+
+pub const HEIGHT: usize = 5;
+
+pub const DEAD_LOAD: usize = 6;
+
+pub const CODE: usize = 7;
+
+pub const S1: usize = 8;
+
+pub const S2: usize = 9;
+
+pub const S3: usize = 10;
+
+pub const S4: usize = 11;
+
+pub const S5: usize = 12;
+
+pub const S6: usize = 13;
+
+pub const MU_A: usize = 14;
+
+pub const MU_B: usize = 15;
+
+// The sixteen numbers of a member's record.
+pub struct Member {
+    pub fields: [u16; 16],
+}
+
+// The members of a bridge, of which the first `count` are used.
+pub struct Survey {
+    pub count: usize,
+    pub members: [Member; 64],
+}
+
+// A lorry: class, track in cm, and of the first `axles` axles the weight in kgf and the distance in cm from the axle in
+// front.
+pub struct Vehicle {
+    pub class: u8,
+    pub track: u16,
+    pub axles: usize,
+    pub weights: [u32; 16],
+    pub distances: [u16; 16],
+}

@@ -1,0 +1,9 @@
+// Units, fractions, species factors and net sections: what a rating is computed from.
+
+// Lengths are whole centimetres, axle weights whole kgf, loads per metre whole kgf/m. A load per metre is never added
+// to an axle load: each unit is a type of its own.
+pub struct Cm(pub u64);
+
+pub struct Kgf(pub u64);
+
+pub struct KgfPerM(pub u64);
