@@ -1,6 +1,7 @@
 -- Fractions of whole numbers. Document 01: "What is not rounded is a fraction of whole numbers with a divisor above 0, and
 -- two such are compared by multiplying out." That a divisor is above 0 is said by `Sound`, apart from the fraction.
 use Prim.Native.Nat.{ℕ, _+_, _-_, _*_, _/_, _≤_, _<_}
+use mathlib.Core.Path.{_≡_}
 use mathlib.Core.Bool.{Bool, true, false}
 use lib.Dec.{leb}
 
@@ -12,8 +13,8 @@ pub record Fraction : Type 0 where
   pub den : ℕ
 
 -- the divisor is above 0
-abbrev pub Sound : Fraction → Type 0
-Sound a = 0 < a .den
+pub record Sound (a : Fraction) : Type 0 where
+  pub above-0 : 0 < a .den
 
 unfoldable pub over : ℕ → ℕ → Fraction
 over n d = record { num = n; den = d }
@@ -46,14 +47,14 @@ unfoldable pub square : Fraction → Fraction
 square a = a · a
 
 -- at most, less than and equal, by multiplying out
-abbrev pub _⊑_ : Fraction → Fraction → Type 0
-a ⊑ b = a .num * b .den ≤ b .num * a .den
+pub record _⊑_ (a b : Fraction) : Type 0 where
+  pub out : a .num * b .den ≤ b .num * a .den
 
-abbrev pub _⊏_ : Fraction → Fraction → Type 0
-a ⊏ b = a .num * b .den < b .num * a .den
+pub record _⊏_ (a b : Fraction) : Type 0 where
+  pub out : a .num * b .den < b .num * a .den
 
-abbrev pub _≐_ : Fraction → Fraction → Type 0
-a ≐ b = mathlib.Core.Path._≡_ (a .num * b .den) (b .num * a .den)
+pub record _≐_ (a b : Fraction) : Type 0 where
+  pub out : a .num * b .den ≡ b .num * a .den
 
 abbrev pub pickFraction : Bool → Fraction → Fraction → Fraction
 pickFraction true a b = a
@@ -72,3 +73,13 @@ floor a = a .num / a .den
 
 unfoldable pub ceiling : Fraction → ℕ
 ceiling a = (a .num + (a .den - 1)) / a .den
+
+-- "rounded down once": never above, and less than one unit below
+pub record RoundedDown (a : Fraction) (r : ℕ) : Type 0 where
+  pub never-above : whole r ⊑ a
+  pub near : a ⊏ whole (r + 1)
+
+-- "rounded up once": never below, and less than one unit above
+pub record RoundedUp (a : Fraction) (r : ℕ) : Type 0 where
+  pub never-below : a ⊑ whole r
+  pub near : whole r ⊏ a ⊕ whole 1

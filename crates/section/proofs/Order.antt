@@ -1,0 +1,134 @@
+-- The order of fractions, and how sums, differences, products, quotients and the lesser of two keep it. Each is its
+-- premises multiplied by the other divisors and sorted into monomials.
+-- Assumes nothing.
+use Prim.Native.Nat.{ℕ, _+_, _-_, _*_, _≤_, _<_}
+use mathlib.Core.Path.{_≡_, refl}
+use mathlib.Core.Bool.{Bool, true, false}
+use native.Mathlib.Nat.{mul-le-mul, mul-le-mul-right, mul-pos, le-of-mul-le-mul-right, le-refl, le-of-lt, mul-sub, mul-comm}
+use native.Mathlib.Omega.{arith}
+use lib.Dec.{leb}
+use borrow.Author.Tests.{leb-true, leb-false}
+use Rattle.section.specs.Fraction.{Fraction, Sound, pickFraction, _·_, _÷_, _⊕_, _⊖_, _⊑_, _≐_, lesser, greater}
+
+pub ⊑-refl : {a : Fraction} → a ⊑ a
+⊑-refl = record { out = le-refl _ }
+
+pub ⊑-trans : {a b c : Fraction} → Sound b → a ⊑ b → b ⊑ c → a ⊑ c
+⊑-trans {a} {b} {c} s p q =
+    record {
+      out =
+          le-of-mul-le-mul-right {k = b .den}
+          (omega (arith, mul-le-mul-right (c .den) (p .out), mul-le-mul-right (a .den) (q .out)))
+          (s .above-0);
+    }
+
+pub ≐-⊑ : {a b : Fraction} → a ≐ b → a ⊑ b
+≐-⊑ e = omega arith
+
+pub ≐-⊒ : {a b : Fraction} → a ≐ b → b ⊑ a
+≐-⊒ e = omega arith
+
+pub ·-mono : {a a' b b' : Fraction} → a ⊑ a' → b ⊑ b' → a · b ⊑ a' · b'
+unfolding _·_
+·-mono p q = omega (arith, mul-le-mul (p .out) (q .out))
+
+pub ÷-mono : {a a' : Fraction} (b : Fraction) → a ⊑ a' → a ÷ b ⊑ a' ÷ b
+unfolding _÷_
+÷-mono b p = omega (arith, mul-le-mul-right (b .num * b .den) (p .out))
+
+pub ⊕-mono : {a a' b b' : Fraction} → a ⊑ a' → b ⊑ b' → a ⊕ b ⊑ a' ⊕ b'
+unfolding _⊕_
+⊕-mono {a} {a'} {b} {b'} p q =
+    omega (arith, mul-le-mul-right (b .den * b' .den) (p .out), mul-le-mul-right (a .den * a' .den) (q .out))
+
+-- a product with a truncated difference
+pub sub-mul : (m n k : ℕ) → (m - n) * k ≡ m * k - n * k
+sub-mul m n k = rw (mul-comm (m - n) k, mul-comm m k, mul-comm n k) (mul-sub k m n)
+
+sub-mul-mono : (x y z u v w : ℕ) → x * z ≤ u * w → v * w ≤ y * z → (x - y) * z ≤ (u - v) * w
+sub-mul-mono x y z u v w p q = rw (sub-mul x y z, sub-mul u v w) (omega arith)
+
+pub ⊖-mono : {a a' b b' : Fraction} → a ⊑ a' → b' ⊑ b → a ⊖ b ⊑ a' ⊖ b'
+unfolding _⊖_
+⊖-mono {a} {a'} {b} {b'} p q =
+    record {
+      out =
+          sub-mul-mono _ _ _ _ _ _ (omega (arith, mul-le-mul-right (b .den * b' .den) (p .out)))
+          (omega (arith, mul-le-mul-right (a .den * a' .den) (q .out)));
+    }
+
+-- the divisors of sums, differences, products and quotients
+pub ·-sound : {a b : Fraction} → Sound a → Sound b → Sound (a · b)
+unfolding _·_
+·-sound p q = record { above-0 = mul-pos (p .above-0) (q .above-0) }
+
+pub ⊕-sound : {a b : Fraction} → Sound a → Sound b → Sound (a ⊕ b)
+unfolding _⊕_
+⊕-sound p q = record { above-0 = mul-pos (p .above-0) (q .above-0) }
+
+pub ⊖-sound : {a b : Fraction} → Sound a → Sound b → Sound (a ⊖ b)
+unfolding _⊖_
+⊖-sound p q = record { above-0 = mul-pos (p .above-0) (q .above-0) }
+
+pub ÷-sound : {a : Fraction} (b : Fraction) → Sound a → 0 < b .num → Sound (a ÷ b)
+unfolding _÷_
+÷-sound b p q = record { above-0 = mul-pos (p .above-0) q }
+
+pub ·-above-0 : (a b : Fraction) → 0 < a .num → 0 < b .num → 0 < (a · b) .num
+unfolding _·_
+·-above-0 a b p q = mul-pos p q
+
+-- what holds of both of two holds of the lesser and of the greater
+pub of-lesser : (P : Fraction → Type 0) {a b : Fraction} → P a → P b → P (lesser a b)
+unfolding lesser
+of-lesser P {a} {b} p q = go (leb (a .num * b .den) (b .num * a .den))
+  where
+    go : (t : Bool) → P (pickFraction t a b)
+    go true = p
+    go false = q
+
+pub of-greater : (P : Fraction → Type 0) {a b : Fraction} → P a → P b → P (greater a b)
+unfolding greater
+of-greater P {a} {b} p q = go (leb (b .num * a .den) (a .num * b .den))
+  where
+    go : (t : Bool) → P (pickFraction t a b)
+    go true = p
+    go false = q
+
+-- the lesser of two is at most each
+pub lesser-left : (a b : Fraction) → lesser a b ⊑ a
+unfolding lesser
+lesser-left a b = go (leb (a .num * b .den) (b .num * a .den)) refl
+  where
+    go : (t : Bool) → leb (a .num * b .den) (b .num * a .den) ≡ t → pickFraction t a b ⊑ a
+    go true e = ⊑-refl
+    go false e = record { out = le-of-lt (leb-false _ _ e) }
+
+pub lesser-right : (a b : Fraction) → lesser a b ⊑ b
+unfolding lesser
+lesser-right a b = go (leb (a .num * b .den) (b .num * a .den)) refl
+  where
+    go : (t : Bool) → leb (a .num * b .den) (b .num * a .den) ≡ t → pickFraction t a b ⊑ b
+    go true e = record { out = leb-true _ _ e }
+    go false e = ⊑-refl
+
+pub lesser-mono : {a a' b b' : Fraction} → Sound a → Sound b → a ⊑ a' → b ⊑ b' → lesser a b ⊑ lesser a' b'
+lesser-mono {a} {a'} {b} {b'} s t p q =
+    of-lesser (λ c. lesser a b ⊑ c) (⊑-trans s (lesser-left a b) p) (⊑-trans t (lesser-right a b) q)
+
+-- the greater of two is at least each
+pub greater-left : (a b : Fraction) → a ⊑ greater a b
+unfolding greater
+greater-left a b = go (leb (b .num * a .den) (a .num * b .den)) refl
+  where
+    go : (t : Bool) → leb (b .num * a .den) (a .num * b .den) ≡ t → a ⊑ pickFraction t a b
+    go true e = ⊑-refl
+    go false e = record { out = le-of-lt (leb-false _ _ e) }
+
+pub greater-right : (a b : Fraction) → b ⊑ greater a b
+unfolding greater
+greater-right a b = go (leb (b .num * a .den) (a .num * b .den)) refl
+  where
+    go : (t : Bool) → leb (b .num * a .den) (a .num * b .den) ≡ t → b ⊑ pickFraction t a b
+    go true e = record { out = leb-true _ _ e }
+    go false e = ⊑-refl
