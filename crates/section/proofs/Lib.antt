@@ -1,2 +1,6 @@
+pub mod Terms
 pub mod Order
+pub mod Quotient
 pub mod Rounding
+pub mod Sections
+pub mod Table

@@ -1,14 +1,14 @@
 -- The order of fractions, and how sums, differences, products, quotients and the lesser of two keep it. Each is its
 -- premises multiplied by the other divisors and sorted into monomials.
 -- Assumes nothing.
-use Prim.Native.Nat.{ℕ, _+_, _-_, _*_, _≤_, _<_}
-use mathlib.Core.Path.{_≡_, refl}
+use Prim.Native.Nat.{ℕ, _+_, _-_, _*_, _≤_, _<_, min}
+use mathlib.Core.Path.{_≡_, refl, ap}
 use mathlib.Core.Bool.{Bool, true, false}
-use native.Mathlib.Nat.{mul-le-mul, mul-le-mul-right, mul-pos, le-of-mul-le-mul-right, le-refl, le-of-lt, mul-sub, mul-comm}
+use native.Mathlib.Nat.{mul-le-mul, mul-le-mul-right, mul-pos, le-of-mul-le-mul-right, le-refl, le-of-lt, min-eq-left, min-eq-right, mul-sub, mul-comm}
 use native.Mathlib.Omega.{arith}
 use lib.Dec.{leb}
 use borrow.Author.Tests.{leb-true, leb-false}
-use Rattle.section.specs.Fraction.{Fraction, Sound, pickFraction, _·_, _÷_, _⊕_, _⊖_, _⊑_, _≐_, lesser, greater}
+use Rattle.section.specs.Fraction.{Fraction, Sound, pickFraction, over, whole, tenths, hundredths, square, _·_, _÷_, _⊕_, _⊖_, _⊑_, _≐_, lesser, greater}
 
 pub ⊑-refl : {a : Fraction} → a ⊑ a
 ⊑-refl = record { out = le-refl _ }
@@ -78,6 +78,30 @@ pub ·-above-0 : (a b : Fraction) → 0 < a .num → 0 < b .num → 0 < (a · b)
 unfolding _·_
 ·-above-0 a b p q = mul-pos p q
 
+pub whole-sound : (n : ℕ) → Sound (whole n)
+unfolding whole
+whole-sound n = omega arith
+
+pub tenths-sound : (n : ℕ) → Sound (tenths n)
+unfolding tenths
+tenths-sound n = omega arith
+
+pub hundredths-sound : (n : ℕ) → Sound (hundredths n)
+unfolding hundredths
+hundredths-sound n = omega arith
+
+pub square-sound : {a : Fraction} → Sound a → Sound (square a)
+unfolding square
+square-sound s = ·-sound s s
+
+pub whole-mono : {m n : ℕ} → m ≤ n → whole m ⊑ whole n
+unfolding whole
+whole-mono h = omega arith
+
+pub square-mono : {a b : Fraction} → a ⊑ b → square a ⊑ square b
+unfolding square
+square-mono h = ·-mono h h
+
 -- what holds of both of two holds of the lesser and of the greater
 pub of-lesser : (P : Fraction → Type 0) {a b : Fraction} → P a → P b → P (lesser a b)
 unfolding lesser
@@ -132,3 +156,21 @@ greater-right a b = go (leb (b .num * a .den) (a .num * b .den)) refl
     go : (t : Bool) → leb (b .num * a .den) (a .num * b .den) ≡ t → b ⊑ pickFraction t a b
     go true e = record { out = leb-true _ _ e }
     go false e = ⊑-refl
+
+-- k times the lesser of two, where each of them times k is whole
+pub lesser-scaled : (k x y : ℕ) {a b : Fraction} → Sound a → Sound b → over x k ≐ a → over y k ≐ b → over (min x y) k ≐ lesser a b
+unfolding over lesser
+lesser-scaled k x y {a} {b} s t p q = go (leb (a .num * b .den) (b .num * a .den)) refl
+  where
+    -- the order of the two is that of the numbers over k
+    ordered : (x y : ℕ) {a b : Fraction} → 0 < a .den * b .den → over x k ≐ a → over y k ≐ b → a ⊑ b → x ≤ y
+    ordered x y {a} {b} d p q h =
+        le-of-mul-le-mul-right
+        (omega (arith, ap (λ (z : ℕ). z * b .den) (p .out), ap (λ (z : ℕ). z * a .den) (q .out), mul-le-mul-right k (h .out)))
+        d
+
+    go : (d : Bool) → leb (a .num * b .den) (b .num * a .den) ≡ d → over (min x y) k ≐ pickFraction d a b
+    go true e =
+        rw (min-eq-left (ordered x y (mul-pos (s .above-0) (t .above-0)) p q (record { out = leb-true _ _ e }))) p
+    go false e =
+        rw (min-eq-right (ordered y x (mul-pos (t .above-0) (s .above-0)) q p (record { out = le-of-lt (leb-false _ _ e) }))) q

@@ -1,1 +1,6 @@
+pub mod Choose
+pub mod Dowel
 pub mod Fraction
+pub mod Log
+pub mod Sawn
+pub mod Species

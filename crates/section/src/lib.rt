@@ -1,4 +1,9 @@
 // Units, fractions, species factors and net sections: what a rating is computed from.
+pub mod dowel;
+pub mod fraction;
+pub mod log;
+pub mod sawn;
+pub mod species;
 
 // Lengths are whole centimetres, axle weights whole kgf, loads per metre whole kgf/m. A load per metre is never added
 // to an axle load: each unit is a type of its own.
