@@ -44,7 +44,7 @@ module _ {W K n q l Kₐ : Fraction} (sW : Sound W) (sK : Sound K) (pn : Positiv
       record {
         front = ·-sound (·-sound (whole-sound 1536) sW) sK;
         dead = ·-sound (·-sound (tenths-sound 12) sq) (square-positive pl .sound);
-        divisor = ·-positive (·-positive pn pKₐ) (square-positive pl)
+        divisor = ·-positive (·-positive pn pKₐ) (square-positive pl);
       }
 
 module _ {W K n q l x : Fraction} (sW : Sound W) (sK : Sound K) (pn : Positive n) (sq : Sound q) (pl : Positive l) (px : Positive x) where
@@ -54,7 +54,7 @@ module _ {W K n q l x : Fraction} (sW : Sound W) (sK : Sound K) (pn : Positive n
       record {
         front = ·-sound (·-sound (whole-sound 1280) sW) sK;
         dead = ·-sound (·-sound (tenths-sound 12) sq) (square-positive pl .sound);
-        divisor = ·-positive (·-positive pn px) pl
+        divisor = ·-positive (·-positive pn px) pl;
       }
 
 module _ (l : Fraction) {h F K n q x Kₐ : Fraction} (sh : Sound h) (sF : Sound F) (sK : Sound K) (pn : Positive n) (sq : Sound q) (pr : Positive (l ⊖ x)) (px : Positive x) (pKₐ : Positive Kₐ) where
@@ -64,7 +64,7 @@ module _ (l : Fraction) {h F K n q x Kₐ : Fraction} (sh : Sound h) (sF : Sound
       record {
         front = ·-sound (·-sound (·-sound (whole-sound 200) sh) sF) sK;
         dead = ·-sound (·-sound (·-sound (tenths-sound 12) sq) (pr .sound)) (px .sound);
-        divisor = ·-positive (·-positive (·-positive pn pKₐ) pr) px
+        divisor = ·-positive (·-positive (·-positive pn pKₐ) pr) px;
       }
 
 module _ (l : Fraction) {front n q μ x Kₐ : Fraction} (sf : Sound front) (pn : Positive n) (sq : Sound q) (pμ : Positive μ) (pr : Positive (l ⊖ x)) (px : Positive x) (pKₐ : Positive Kₐ) where
@@ -74,7 +74,7 @@ module _ (l : Fraction) {front n q μ x Kₐ : Fraction} (sf : Sound front) (pn 
       record {
         front = sf;
         dead = ·-sound (·-sound (·-sound (·-sound (tenths-sound 12) sq) (pμ .sound)) (pr .sound)) (px .sound);
-        divisor = ·-positive (·-positive (·-positive (·-positive pμ pn) pKₐ) pr) px
+        divisor = ·-positive (·-positive (·-positive (·-positive pμ pn) pKₐ) pr) px;
       }
 
 -- the permitted load never rises when the section falls from the second to the first, or the dead load rises

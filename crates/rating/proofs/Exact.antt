@@ -48,7 +48,7 @@ permitted-exact f v =
     record {
       negative = λ h. nothing _ _ (sub-eq-zero-of-le (le-of-lt (h .out)));
       never-above = λ h. record { out = below _ _ _ _ _ _ _ _ (sub-add-cancel (h .out)) (rounded .never-above .out) };
-      near = λ h. record { out = above _ _ _ _ _ _ _ _ (sub-add-cancel (h .out)) (rounded .near .out) }
+      near = λ h. record { out = above _ _ _ _ _ _ _ _ (sub-add-cancel (h .out)) (rounded .near .out) };
     }
   where
     rounded : RoundedDown ((f .front ⊖ f .dead) ÷ f .divisor · whole 100) (permitted f)
@@ -78,12 +78,12 @@ permitted-whole f p q k d v s e h =
     floor-same {b = over ((p - q) * k) d} (value-sound f v) (record { above-0 = s })
     (record {
       out =
-        regroup-left _ (f .divisor .den) d ∙
-        scaled (f .front .num * f .dead .den) (f .dead .num * f .front .den) p q (f .divisor .den * 100 * d)
-        (k * (f .front .den * f .dead .den * f .divisor .num))
-        (omega (arith, ap (λ (z : ℕ). z * f .dead .den) (e .out)))
-        (omega (arith, ap (λ (z : ℕ). z * f .front .den) (h .out))) ∙
-        regroup-right _ k (f .front .den * f .dead .den * f .divisor .num)
+          regroup-left _ (f .divisor .den) d ∙
+          scaled (f .front .num * f .dead .den) (f .dead .num * f .front .den) p q (f .divisor .den * 100 * d)
+          (k * (f .front .den * f .dead .den * f .divisor .num))
+          (omega (arith, ap (λ (z : ℕ). z * f .dead .den) (e .out)))
+          (omega (arith, ap (λ (z : ℕ). z * f .front .den) (h .out))) ∙
+          regroup-right _ k (f .front .den * f .dead .den * f .divisor .num);
     })
   where
     regroup-left : (t v d : ℕ) → t * v * 100 * d ≡ t * (v * 100 * d)

@@ -5,7 +5,6 @@ use mathlib.Core.Path.{_≡_}
 use Rattle.section.specs.Fraction.{Fraction, Sound, whole, tenths, square, floor, _·_, _÷_, _⊕_, _⊖_, _⊑_, _⊏_}
 
 infix 50 ⟨_−_⟩/_
-
 -- a permitted load (front − dead) / divisor, in kgf/cm, whose difference may be negative
 pub record Formula : Type 0 where
   pub front : Fraction

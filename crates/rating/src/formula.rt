@@ -51,7 +51,17 @@ pub fn chord(h: Cm, f: u64, k: u64, n: u64, q: KgfPerM, l: Cm, x: Cm, d: Cm, tra
 }
 
 // (29), (33) and (34), of what stands in front times 1000 · B.
-pub fn joint(front: u64, n: u64, q: KgfPerM, a: u64, b: u64, l: Cm, x: Cm, d: Cm, track: Cm) -> KgfPerM
+pub fn joint(
+    front: u64,
+    n: u64,
+    q: KgfPerM,
+    a: u64,
+    b: u64,
+    l: Cm,
+    x: Cm,
+    d: Cm,
+    track: Cm,
+) -> KgfPerM
     requires { ⌜ Sizes 0 n (q .0) (l .0) × Ratio a b × Inside (x .0) (l .0) × Spaced (d .0) ⌝ }
     ensures { λ r. ⌜ r .0 ≡ permitted (joint (over front (1000 * b)) (tenths n) (hundredths (q .0)) (over a b) (whole (l .0)) (whole (x .0)) (distribution (d .0) (track .0))) ⌝ }
 {
