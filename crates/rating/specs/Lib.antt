@@ -1,3 +1,4 @@
+pub mod Compare
 pub mod Fields
 pub mod Format
 pub mod Formula

@@ -86,11 +86,22 @@ module _ (m : Member) (class track : ℕ) where
       choose (eqb (field m KIND) 4) (dowelled h T K cuts) (choose (eqb (field m KIND) 5) (keyed h F S) (plates h F))
 
   -- the table of permitted loads by kind
+  abbrev pub stringerOf : Formula
+  stringerOf = stringer W K n q l Kₐ
+
+  abbrev pub crossBeamOf : Formula
+  crossBeamOf = crossBeam W K n q l x
+
+  abbrev pub chordOf : Formula
+  chordOf = chord h F K n q l x Kₐ
+
+  abbrev pub jointOf : Formula
+  jointOf = joint jointFront n q μ l x Kₐ
+
   unfoldable pub formulaOf : Formula
   formulaOf =
-      choose (eqb (field m KIND) 1) (stringer W K n q l Kₐ)
-      (choose (eqb (field m KIND) 2) (crossBeam W K n q l x)
-      (choose (eqb (field m KIND) 3) (chord h F K n q l x Kₐ) (joint jointFront n q μ l x Kₐ)))
+      choose (eqb (field m KIND) 1) stringerOf
+      (choose (eqb (field m KIND) 2) crossBeamOf (choose (eqb (field m KIND) 3) chordOf jointOf))
 
   unfoldable pub permittedLoad : ℕ
   permittedLoad = permitted formulaOf

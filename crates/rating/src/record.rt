@@ -1,4 +1,8 @@
 // A member and a vehicle as their files hold them.
+ghost use mathlib.Core.Path.{_≡_};
+ghost use Prim.Native.Nat.{_<_};
+ghost use Rattle.rating.specs.Fields.{field};
+use section::Cm;
 
 // The places of a member's sixteen numbers, in the file's order.
 pub const KIND: usize = 0;
@@ -52,4 +56,23 @@ pub struct Vehicle {
     pub axles: usize,
     pub weights: [u32; 16],
     pub distances: [u16; 16],
+}
+
+impl Member {
+    // The number in a field.
+    pub fn number(self, f: usize) -> u64
+        requires { ⌜ f < 16 ⌝ }
+        ensures { λ r. ⌜ r ≡ field self f ⌝ }
+    {
+        let fields = self.fields;
+        fields[f] as u64
+    }
+
+    // The length in a field.
+    pub fn length(self, f: usize) -> Cm
+        requires { ⌜ f < 16 ⌝ }
+        ensures { λ r. ⌜ r .0 ≡ field self f ⌝ }
+    {
+        Cm(self.number(f))
+    }
 }

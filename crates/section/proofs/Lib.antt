@@ -1,4 +1,5 @@
 pub mod Terms
+pub mod Choices
 pub mod Order
 pub mod Quotient
 pub mod Rounding

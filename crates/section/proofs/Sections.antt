@@ -1,8 +1,8 @@
 -- The net sections W, F and T never rise with rot or lost area.
 -- Assumes nothing.
-use Rattle.section.specs.Fraction.{whole, square, _⊑_}
+use Rattle.section.specs.Fraction.{Sound, whole, square, _⊑_}
 use Rattle.section.specs.Sawn.{sawnModulus, sawnArea, areaLeft}
-use Rattle.section.proofs.Order.{⊑-refl, ·-mono, ÷-mono, whole-mono, square-mono}
+use Rattle.section.proofs.Order.{⊑-refl, ·-mono, ÷-mono, ·-sound, ÷-sound, whole-sound, square-sound, whole-mono, square-mono}
 use Prim.Native.Nat.{ℕ, _+_, _-_, _*_, _≤_, _<_}
 use mathlib.Core.Path.{_≡_, refl}
 use mathlib.Core.Bool.{Bool, true, false}
@@ -55,6 +55,11 @@ beam-caps n b h pn pb ph =
     let across : n * b ≤ 2400 = mul-le-mul pn pb in
     let upright : h * h ≤ 3600 = mul-le-mul ph ph in
     record { pieces = across; area = mul-le-mul across ph; square = upright; modulus = mul-le-mul across upright }
+
+pub sawn-modulus-sound : (w h side top n : ℕ) → Sound (sawnModulus w h side top n)
+unfolding sawnModulus whole
+sawn-modulus-sound w h side top n =
+    ÷-sound (whole 6) (·-sound (·-sound (whole-sound n) (whole-sound (w - side))) (square-sound (whole-sound (h - top)))) (omega arith)
 
 pub sawn-modulus-falls : (w h side side' top top' n : ℕ) → side ≤ side' → top ≤ top' → sawnModulus w h side' top' n ⊑ sawnModulus w h side top n
 unfolding sawnModulus
