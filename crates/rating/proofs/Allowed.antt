@@ -139,6 +139,16 @@ module _ {m : Member} (a : AllowedMember m) where
   unfolding suits bending
   area-code h = eqb-true _ _ (rw (lt-leb (field m KIND) 2 (omega arith), ne-eqb (field m KIND) 3 (omega arith), ne-eqb (field m KIND) 4 (omega arith)) at (a .section))
 
+  pub area-size : 5 ≤ field m KIND → field m S1 ≤ 10000
+  unfolding used unusedByKind unusedByCode rangeOf ranges sectionRange sectionRanges
+  area-size h = ⊎-elim (λ e. of 5 e refl) (λ e. of 6 e refl) five-or-six
+    where
+      of : (k : ℕ) → field m KIND ≡ k → used k 4 S1 ≡ true → field m S1 ≤ 10000
+      of k e u = in-range-of a k 4 S1 e (area-code h) (omega arith) u .1
+
+      five-or-six : (field m KIND ≡ 5) ⊎ (field m KIND ≡ 6)
+      five-or-six = elim (decLe (field m KIND) 5) [ yes l ↦ inl (omega arith) | no n ↦ inr (omega (arith, a .kind)) ]
+
   pub sawn-chord : field m KIND ≡ 3 → SawnSizes m
   unfolding used unusedByKind unusedByCode bending
   sawn-chord e = sawn-of 3 e (chord-code e) refl refl refl

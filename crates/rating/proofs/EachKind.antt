@@ -3,10 +3,10 @@
 -- Assumes nothing.
 use Prim.Native.Nat.{ℕ, _-_, _*_, _≤_, _<_}
 use mathlib.Core.Path.{_≡_, refl}
-use native.Mathlib.Nat.{mul-one}
+use native.Mathlib.Nat.{mul-one, le-antisymm}
 use native.Mathlib.Omega.{arith}
-use Rattle.section.specs.Fraction.{Fraction, Sound, over, whole, tenths, hundredths, square, _·_, _⊖_, _⊑_}
-use Rattle.section.proofs.Order.{⊑-refl, ·-mono, ·-sound, ⊖-sound, whole-sound, tenths-sound, square-sound}
+use Rattle.section.specs.Fraction.{Fraction, Sound, over, whole, tenths, hundredths, square, _·_, _⊖_, _⊑_, _≐_}
+use Rattle.section.proofs.Order.{⊑-refl, ≐-⊑, ≐-⊒, ·-mono, ·-sound, ⊖-sound, whole-sound, tenths-sound, square-sound}
 use Rattle.rating.specs.Formula.{stringer, crossBeam, chord, joint, permitted}
 use Rattle.rating.proofs.Exact.{Positive, ·-positive, Valid, permitted-mono}
 
@@ -101,3 +101,19 @@ pub joint-mono : (n μ l x Kₐ : Fraction) {front front' q q' : Fraction} → V
 unfolding joint
 joint-mono n μ l x Kₐ v v' hf hq =
     permitted-mono _ _ v v' refl hf (·-mono (·-mono (·-mono (·-mono ⊑-refl hq) ⊑-refl) ⊑-refl) ⊑-refl)
+
+-- equal fractions for the section, or in front of a joint, give the same load
+pub stringer-same : (K n q l Kₐ : Fraction) {W W' : Fraction} → Valid (stringer W K n q l Kₐ) → Valid (stringer W' K n q l Kₐ) → W ≐ W' →
+    permitted (stringer W K n q l Kₐ) ≡ permitted (stringer W' K n q l Kₐ)
+stringer-same K n q l Kₐ v v' e =
+    le-antisymm (stringer-mono K n l Kₐ v v' (≐-⊑ e) ⊑-refl) (stringer-mono K n l Kₐ v' v (≐-⊒ e) ⊑-refl)
+
+pub cross-beam-same : (K n q l x : Fraction) {W W' : Fraction} → Valid (crossBeam W K n q l x) → Valid (crossBeam W' K n q l x) → W ≐ W' →
+    permitted (crossBeam W K n q l x) ≡ permitted (crossBeam W' K n q l x)
+cross-beam-same K n q l x v v' e =
+    le-antisymm (cross-beam-mono K n l x v v' (≐-⊑ e) ⊑-refl) (cross-beam-mono K n l x v' v (≐-⊒ e) ⊑-refl)
+
+pub joint-same : (n q μ l x Kₐ : Fraction) {front front' : Fraction} → Valid (joint front n q μ l x Kₐ) → Valid (joint front' n q μ l x Kₐ) → front ≐ front' →
+    permitted (joint front n q μ l x Kₐ) ≡ permitted (joint front' n q μ l x Kₐ)
+joint-same n q μ l x Kₐ v v' e =
+    le-antisymm (joint-mono n μ l x Kₐ v v' (≐-⊑ e) ⊑-refl) (joint-mono n μ l x Kₐ v' v (≐-⊒ e) ⊑-refl)

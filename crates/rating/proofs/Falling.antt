@@ -9,9 +9,9 @@ use native.Mathlib.Omega.{arith}
 use lib.Dec.{eqb}
 use borrow.Author.Tests.{eq-eqb, ne-eqb}
 use Rattle.section.specs.Choose.{choose}
-use Rattle.section.specs.Fraction.{Fraction, whole, hundredths, _⊑_}
+use Rattle.section.specs.Fraction.{Fraction, Sound, over, whole, hundredths, _⊑_, _≐_}
 use Rattle.section.specs.Species.{bendingFactor, shearFactor}
-use Rattle.section.proofs.Order.{⊑-refl, ·-mono, whole-mono}
+use Rattle.section.proofs.Order.{⊑-refl, ⊑-antisymm, ≐-⊑, ≐-⊒, ≐-trans, ·-mono, ·-sound, whole-sound, whole-mono}
 use Rattle.section.proofs.Sections.{tiered-modulus-falls, sawn-modulus-falls, sawn-area-falls, area-left-falls}
 use Rattle.section.proofs.Terms.{dowel-capacity-falls}
 use Rattle.rating.specs.Fields.{KIND, SPECIES, SPAN, SPACING, DISTANCE, HEIGHT, DEAD-LOAD, CODE, S1, S2, S3, S4, S5, S6, MU-A, MU-B, FIELDS, field}
@@ -23,12 +23,21 @@ use Rattle.rating.specs.Sizes.{Spaced, Inside, Ratio}
 use Rattle.rating.specs.declared.record.Member.{Member}
 use Rattle.rating.proofs.Allowed.{one-of-four, log-sizes, chord-code, dowel-code, area-code, code-in-bending}
 use Rattle.rating.proofs.Exact.{Valid, permitted-exact}
-use Rattle.rating.proofs.EachKind.{stringer-mono, cross-beam-mono, chord-mono, joint-mono}
+use Rattle.rating.proofs.EachKind.{over-sound, stringer-mono, cross-beam-mono, chord-mono, joint-mono}
 use Rattle.rating.proofs.Quantities.{by-kind, spacing, inside, ratio, valid-stringer, valid-cross-beam, valid-chord, valid-joint}
 
 pub hundredths-mono : {m n : ℕ} → m ≤ n → hundredths m ⊑ hundredths n
 unfolding hundredths
 hundredths-mono h = omega arith
+
+-- a whole number over 100 for T in what stands in front of a dowelled joint
+pub dowelled-same : (t : ℕ) (h K cuts : Fraction) {T front : Fraction} → Sound h → Sound K → Sound cuts → over t 100 ≐ T →
+    front ≐ dowelled h (over t 100) K cuts →
+    front ≐ dowelled h T K cuts
+unfolding dowelled
+dowelled-same t h K cuts sh sK sc e f =
+    ≐-trans (·-sound (·-sound (·-sound (·-sound (whole-sound 2) sh) (over-sound t 100 (omega arith))) sK) sc) f
+    (⊑-antisymm (·-mono (·-mono (·-mono ⊑-refl (≐-⊑ e)) ⊑-refl) ⊑-refl) (·-mono (·-mono (·-mono ⊑-refl (≐-⊒ e)) ⊑-refl) ⊑-refl))
 
 -- the permitted load by kind
 module _ (m : Member) (class track : ℕ) where
@@ -172,7 +181,7 @@ module _ {m m' : Member} (a : AllowedMember m) (a' : AllowedMember m') (w : Worn
       (dowel-capacity-falls (field m S1) (field m S2) (field m S3) (field m S4) (field m S5) (field m' S5) (worse 3 S5 refl e (omega arith)))
 
   module _ (class track : ℕ) where
-    front-falls : 4 ≤ field m KIND → jointFront m' class track ⊑ jointFront m class track
+    front-falls : 4 ≤ field m KIND → jointFront m' ⊑ jointFront m
     unfolding jointFront dowelled keyed plates wears rotFields lostFields
     front-falls h =
         rw (← same-kind, ← (same SPECIES refl (omega arith)), ← (same HEIGHT refl (omega arith)))

@@ -112,27 +112,27 @@ pub modulus-sound : (m : Member) → Sound (sectionModulus m)
 unfolding sectionModulus
 modulus-sound m = of-choose Sound (eqb (field m CODE) 1) (whole-sound _) (sawn-modulus-sound _ _ _ _ _)
 
-pub front-sound : (m : Member) (class track : ℕ) → Sound (jointFront m class track)
+pub front-sound : (m : Member) → Sound (jointFront m)
 unfolding jointFront dowelled keyed plates capacity
-front-sound m class track =
+front-sound m =
     of-choose Sound (eqb (field m KIND) 4)
     (·-sound (·-sound (·-sound (·-sound (whole-sound 2) (whole-sound _)) (dowel-capacity-sound _ _ _ _ _)) (tenths-sound _)) (whole-sound _))
     (of-choose Sound (eqb (field m KIND) 5) (·-sound (·-sound (·-sound (tenths-sound 224) (whole-sound _)) (whole-sound _)) (tenths-sound _))
     (·-sound (·-sound (whole-sound 3800) (whole-sound _)) (whole-sound _)))
 
-module _ {m : Member} (a : AllowedMember m) (class track : ℕ) where
-  span-positive : Positive (whole (field m SPAN))
-  span-positive = whole-positive _ (sizes a 0 11 (omega arith) (omega arith) .span-low)
+pub span-positive : {m : Member} → AllowedMember m → Positive (whole (field m SPAN))
+span-positive a = whole-positive _ (sizes a 0 11 (omega arith) (omega arith) .span-low)
 
+module _ {m : Member} (a : AllowedMember m) (class track : ℕ) where
   pub valid-stringer : field m KIND ≡ 1 → Valid (stringerOf m class track)
   unfolding used unusedByKind unusedByCode bending suits
   valid-stringer e =
-      stringer-valid (modulus-sound m) (tenths-sound _) (load-factor-positive class) (hundredths-sound _) span-positive
+      stringer-valid (modulus-sound m) (tenths-sound _) (load-factor-positive class) (hundredths-sound _) (span-positive a)
       (distribution-positive _ track (spacing a 1 e refl .low))
 
   pub valid-cross-beam : field m KIND ≡ 2 → Valid (crossBeamOf m class track)
   valid-cross-beam e =
-      cross-beam-valid (modulus-sound m) (tenths-sound _) (load-factor-positive class) (hundredths-sound _) span-positive
+      cross-beam-valid (modulus-sound m) (tenths-sound _) (load-factor-positive class) (hundredths-sound _) (span-positive a)
       (whole-positive _ (panel a e .low))
 
   pub valid-chord : field m KIND ≡ 3 → Valid (chordOf m class track)
@@ -147,7 +147,7 @@ module _ {m : Member} (a : AllowedMember m) (class track : ℕ) where
   -- the joints, of whatever kind has the quantities of a joint
   pub valid-joint : Inside (field m DISTANCE) (field m SPAN) → Spaced (field m SPACING) → Ratio (field m MU-A) (field m MU-B) → Valid (jointOf m class track)
   valid-joint x d r =
-      joint-valid (whole (field m SPAN)) (front-sound m class track) (load-factor-positive class) (hundredths-sound _)
+      joint-valid (whole (field m SPAN)) (front-sound m) (load-factor-positive class) (hundredths-sound _)
       (over-positive _ _ (r .low-a) (r .low-b))
       (rest-positive _ _ (x .high))
       (whole-positive _ (x .low))

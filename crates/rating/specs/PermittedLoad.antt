@@ -40,7 +40,7 @@ capacity m = dowelCapacity (field m S1) (field m S2) (field m S3) (field m S4) (
 
 -- the quantities of a member's formula: "l span, d spacing to the neighbour, x distance from the support, h truss height, q dead
 -- load in kgf/cm (the field / 100), E track, μ = A/B"
-module _ (m : Member) (class track : ℕ) where
+module _ (m : Member) where
   abbrev l : Fraction
   l = whole (field m SPAN)
 
@@ -55,12 +55,6 @@ module _ (m : Member) (class track : ℕ) where
 
   abbrev μ : Fraction
   μ = over (field m MU-A) (field m MU-B)
-
-  abbrev n : Fraction
-  n = loadFactor class
-
-  abbrev Kₐ : Fraction
-  Kₐ = distribution (field m SPACING) track
 
   abbrev K : Fraction
   K = bendingFactor (field m SPECIES)
@@ -86,22 +80,29 @@ module _ (m : Member) (class track : ℕ) where
       choose (eqb (field m KIND) 4) (dowelled h T K cuts) (choose (eqb (field m KIND) 5) (keyed h F S) (plates h F))
 
   -- the table of permitted loads by kind
-  abbrev pub stringerOf : Formula
-  stringerOf = stringer W K n q l Kₐ
+  module _ (class track : ℕ) where
+    abbrev n : Fraction
+    n = loadFactor class
 
-  abbrev pub crossBeamOf : Formula
-  crossBeamOf = crossBeam W K n q l x
+    abbrev Kₐ : Fraction
+    Kₐ = distribution (field m SPACING) track
 
-  abbrev pub chordOf : Formula
-  chordOf = chord h F K n q l x Kₐ
+    abbrev pub stringerOf : Formula
+    stringerOf = stringer W K n q l Kₐ
 
-  abbrev pub jointOf : Formula
-  jointOf = joint jointFront n q μ l x Kₐ
+    abbrev pub crossBeamOf : Formula
+    crossBeamOf = crossBeam W K n q l x
 
-  unfoldable pub formulaOf : Formula
-  formulaOf =
-      choose (eqb (field m KIND) 1) stringerOf
-      (choose (eqb (field m KIND) 2) crossBeamOf (choose (eqb (field m KIND) 3) chordOf jointOf))
+    abbrev pub chordOf : Formula
+    chordOf = chord h F K n q l x Kₐ
 
-  unfoldable pub permittedLoad : ℕ
-  permittedLoad = permitted formulaOf
+    abbrev pub jointOf : Formula
+    jointOf = joint jointFront n q μ l x Kₐ
+
+    unfoldable pub formulaOf : Formula
+    formulaOf =
+        choose (eqb (field m KIND) 1) stringerOf
+        (choose (eqb (field m KIND) 2) crossBeamOf (choose (eqb (field m KIND) 3) chordOf jointOf))
+
+    unfoldable pub permittedLoad : ℕ
+    permittedLoad = permitted formulaOf

@@ -4,7 +4,7 @@
 use Prim.Native.Nat.{ℕ, _+_, _-_, _*_, _≤_, _<_, min}
 use mathlib.Core.Path.{_≡_, refl, ap}
 use mathlib.Core.Bool.{Bool, true, false}
-use native.Mathlib.Nat.{mul-le-mul, mul-le-mul-right, mul-pos, le-of-mul-le-mul-right, le-refl, le-of-lt, min-eq-left, min-eq-right, mul-sub, mul-comm}
+use native.Mathlib.Nat.{mul-le-mul, mul-le-mul-right, mul-pos, le-of-mul-le-mul-right, le-refl, le-antisymm, le-of-lt, min-eq-left, min-eq-right, mul-sub, mul-comm}
 use native.Mathlib.Omega.{arith}
 use lib.Dec.{leb}
 use borrow.Author.Tests.{leb-true, leb-false}
@@ -27,6 +27,12 @@ pub ≐-⊑ : {a b : Fraction} → a ≐ b → a ⊑ b
 
 pub ≐-⊒ : {a b : Fraction} → a ≐ b → b ⊑ a
 ≐-⊒ e = omega arith
+
+pub ⊑-antisymm : {a b : Fraction} → a ⊑ b → b ⊑ a → a ≐ b
+⊑-antisymm p q = record { out = le-antisymm (p .out) (q .out) }
+
+pub ≐-trans : {a b c : Fraction} → Sound b → a ≐ b → b ≐ c → a ≐ c
+≐-trans s p q = ⊑-antisymm (⊑-trans s (≐-⊑ p) (≐-⊑ q)) (⊑-trans s (≐-⊒ q) (≐-⊒ p))
 
 pub ·-mono : {a a' b b' : Fraction} → a ⊑ a' → b ⊑ b' → a · b ⊑ a' · b'
 unfolding _·_

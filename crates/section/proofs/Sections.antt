@@ -38,6 +38,15 @@ net-diameter-cap d rot = omega arith
 pub tiers-cap : (tiers w : ℕ) → tiers ≤ 3 → w ≤ 5824 → (tiers - 1) * w ≤ 11648
 tiers-cap tiers w p q = omega (arith, mul-le-mul {n₁ = tiers - 1} {n₂ = 2} (omega arith) q)
 
+pub tiered-modulus-cap : (d rot tiers : ℕ) → d ≤ 39 → tiers ≤ 3 → tieredModulus d rot tiers ≤ 17472
+unfolding tieredModulus
+tiered-modulus-cap d rot tiers p q =
+    omega (
+      arith,
+      log-modulus-cap (netDiameter d rot) (omega (arith, net-diameter-cap d rot)),
+      tiers-cap tiers (logModulus d) q (log-modulus-cap d p),
+    )
+
 pub tiered-modulus-falls : (d rot rot' tiers : ℕ) → rot ≤ rot' → d ≤ 39 → tieredModulus d rot' tiers ≤ tieredModulus d rot tiers
 unfolding tieredModulus netDiameter
 tiered-modulus-falls d rot rot' tiers p h =
