@@ -1,0 +1,76 @@
+//! Survey files that the document allows.
+
+use super::Random;
+use crate::layout::*;
+
+/// How a file's numbers are spread.
+#[derive(Clone, Copy, PartialEq, Eq)]
+pub enum Spread {
+    /// Over the whole of every range, its edges often.
+    Wide,
+    /// Little rot, loss and dead load, as on a bridge in use.
+    Usual,
+}
+
+/// Numbers that lower a member's load: rot, lost area and dead load.
+pub(super) fn lowers(words: &Words, word: usize) -> bool {
+    match words[SECTION] {
+        _ if word == DEAD_LOAD => true,
+        1 => word == S2,
+        2 => word == S3 || word == S4 || word == S6,
+        3 => word == S5,
+        _ => word == S2,
+    }
+}
+
+fn number(random: &mut Random, spread: Spread, low: bool, least: u16, greatest: u16) -> u16 {
+    match spread {
+        Spread::Wide => random.edgy(least, greatest),
+        Spread::Usual if low => random.between(least, least + (greatest - least) / 20),
+        Spread::Usual => random.between(least, greatest),
+    }
+}
+
+/// A member of this kind.
+fn member(random: &mut Random, spread: Spread, kind: u16) -> Words {
+    let mut words: Words = [0; 16];
+    words[KIND] = kind;
+    words[SECTION] = *random.pick(sections(kind));
+    if has_species(kind) {
+        words[SPECIES] = random.between(1, 8);
+    }
+    for &(word, least, greatest) in used(kind, words[SECTION]) {
+        let greatest = match word {
+            FROM_SUPPORT if kind != 2 => words[SPAN] - 1,
+            _ => greatest,
+        };
+        words[word] = number(random, spread, lowers(&words, word), least, greatest);
+    }
+    if words[PART_A] > words[WHOLE_B] {
+        words.swap(PART_A, WHOLE_B);
+    }
+    words
+}
+
+/// So many members, kinds at random.
+pub fn survey(random: &mut Random, spread: Spread, count: usize) -> Vec<Words> {
+    let mut members = Vec::with_capacity(count);
+    for _ in 0..count {
+        let kind = random.between(1, 6);
+        members.push(member(random, spread, kind));
+    }
+    members
+}
+
+/// 64 members of all kinds in turn.
+pub fn full_survey(random: &mut Random, spread: Spread) -> Vec<Words> {
+    (0..64).map(|i| member(random, spread, i % 6 + 1)).collect()
+}
+
+/// The file of these members.
+pub fn survey_bytes(members: &[Words]) -> Vec<u8> {
+    let mut bytes = b"TBR\x01\x00".to_vec();
+    bytes.push(members.len() as u8);
+    bytes.extend(members.iter().flatten().flat_map(|word| word.to_le_bytes()));
+    bytes
+}

@@ -1,0 +1,43 @@
+//! The second file of a pair as demand 3 has it: deeper rot, more lost area, more dead load,
+//! heavier axles, members and axles added; all else the same.
+
+use super::survey::{lowers, survey};
+use super::{vehicle, Random, Spread, VehicleWords};
+use crate::layout::{used, Words, KIND, SECTION};
+
+/// A number that stays, grows by 1 or grows as far as its range goes.
+fn grown(random: &mut Random, value: u16, greatest: u16) -> u16 {
+    match random.below(4) {
+        0 | 1 => value,
+        2 => (value + 1).min(greatest),
+        _ => random.between(value, greatest),
+    }
+}
+
+/// The same members, none sounder or lighter, and up to `more` others behind them.
+pub fn worse_survey(random: &mut Random, members: &[Words], more: usize) -> Vec<Words> {
+    let mut worse = members.to_vec();
+    for words in &mut worse {
+        for &(word, _, greatest) in used(words[KIND], words[SECTION]) {
+            if lowers(words, word) {
+                words[word] = grown(random, words[word], greatest);
+            }
+        }
+    }
+    let added = random.below((64 - members.len()).min(more) + 1);
+    worse.extend(survey(random, Spread::Usual, added));
+    worse
+}
+
+/// The same axles, none lighter, and up to `more` others behind them.
+pub fn worse_vehicle(random: &mut Random, first: &VehicleWords, more: usize) -> VehicleWords {
+    let mut worse = first.clone();
+    for axle in &mut worse.axles {
+        axle[0] = grown(random, axle[0], 60000);
+    }
+    let added = random.below((16 - first.axles.len()).min(more) + 1);
+    // The first axle of a vehicle has no distance, so the added ones are the axles after it.
+    let others = vehicle(random, Spread::Usual, added + 1);
+    worse.axles.extend(&others.axles[1..]);
+    worse
+}

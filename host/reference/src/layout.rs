@@ -1,0 +1,92 @@
+//! The survey record: sixteen words, and for each kind and section which of them are used and
+//! within which limits. What is used by neither is 0.
+
+/// Words of a record by place.
+pub const KIND: usize = 0;
+pub const SPECIES: usize = 1;
+pub const SPAN: usize = 2;
+pub const SPACING: usize = 3;
+pub const FROM_SUPPORT: usize = 4;
+pub const TRUSS_HEIGHT: usize = 5;
+pub const DEAD_LOAD: usize = 6;
+pub const SECTION: usize = 7;
+pub const S1: usize = 8;
+pub const S2: usize = 9;
+pub const S3: usize = 10;
+pub const S4: usize = 11;
+pub const S5: usize = 12;
+pub const S6: usize = 13;
+pub const PART_A: usize = 14;
+pub const WHOLE_B: usize = 15;
+
+/// The words of one record.
+pub type Words = [u16; 16];
+
+/// A used number: its word, its least and its greatest value.
+pub type Limit = (usize, u16, u16);
+
+const L: Limit = (SPAN, 100, 5000);
+const D: Limit = (SPACING, 10, 1000);
+const X: Limit = (FROM_SUPPORT, 1, 4999);
+const PANEL: Limit = (FROM_SUPPORT, 10, 1000);
+const H: Limit = (TRUSS_HEIGHT, 10, 500);
+const Q: Limit = (DEAD_LOAD, 0, 10000);
+const A: Limit = (PART_A, 1, 1000);
+const B: Limit = (WHOLE_B, 1, 1000);
+
+/// The used numbers of a kind. Beside these limits x is below l but for kind 2, and A at most B.
+pub fn of_kind(kind: u16) -> &'static [Limit] {
+    match kind {
+        1 => &[L, D, Q],
+        2 => &[L, PANEL, Q],
+        3 => &[L, D, X, H, Q],
+        4..=6 => &[L, D, X, H, Q, A, B],
+        _ => &[],
+    }
+}
+
+/// The used numbers of a section; the lost area of a sawn one is unused in bending.
+pub fn of_section(kind: u16, code: u16) -> &'static [Limit] {
+    const SAWN: [Limit; 6] =
+        [(S1, 1, 60), (S2, 1, 60), (S3, 0, 60), (S4, 0, 60), (S5, 1, 40), (S6, 0, 10000)];
+    const DOWELS: [Limit; 6] =
+        [(S1, 1, 3), (S2, 1, 60), (S3, 1, 60), (S4, 1, 60), (S5, 0, 60), (S6, 1, 200)];
+    match code {
+        1 => &[(S1, 13, 39), (S2, 0, 60), (S3, 1, 3)],
+        2 if kind <= 2 => SAWN.split_at(5).0,
+        2 => &SAWN,
+        3 => &DOWELS,
+        4 => &[(S1, 1, 10000), (S2, 0, 10000)],
+        _ => &[],
+    }
+}
+
+/// The section codes that suit a kind.
+pub fn sections(kind: u16) -> &'static [u16] {
+    match kind {
+        1 | 2 => &[1, 2],
+        3 => &[2],
+        4 => &[3],
+        5 | 6 => &[4],
+        _ => &[],
+    }
+}
+
+/// All but steel plates have a species.
+pub fn has_species(kind: u16) -> bool {
+    kind != 6
+}
+
+/// Every used number of a kind with a section.
+pub fn used(kind: u16, code: u16) -> impl Iterator<Item = &'static Limit> {
+    of_kind(kind).iter().chain(of_section(kind, code))
+}
+
+/// Is this word one that must be 0?
+pub fn is_unused(kind: u16, code: u16, word: usize) -> bool {
+    match word {
+        KIND | SECTION => false,
+        SPECIES => !has_species(kind),
+        _ => used(kind, code).all(|limit| limit.0 != word),
+    }
+}

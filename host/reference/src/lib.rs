@@ -1,0 +1,19 @@
+//! Document 01 in plain Rust, written from the document alone, and a generator of files.
+//!
+//! The proved library is tested against it. It tries every position of the vehicle, counts in
+//! fractions of 128 bits and is in no hurry; [`twin`] is the same judgement made fast, for the
+//! benchmark.
+
+pub mod fraction;
+pub mod generate;
+pub mod influence;
+pub mod judge;
+pub mod layout;
+pub mod lines;
+pub mod permitted;
+pub mod reader;
+pub mod section;
+pub mod twin;
+
+pub use judge::{judge, Judged, Rated};
+pub use reader::{Axle, File, Member, Refused, Vehicle};

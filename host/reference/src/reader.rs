@@ -1,0 +1,153 @@
+//! Bytes to members and axles, or the first fault in the document's order of tests.
+
+use crate::layout::*;
+
+/// Which of the two files.
+#[derive(Clone, Copy, Debug, PartialEq, Eq)]
+pub enum File {
+    Survey,
+    Vehicle,
+}
+
+/// A refused file: the number of the document's list and the place.
+#[derive(Clone, Copy, Debug, PartialEq, Eq)]
+pub struct Refused {
+    pub file: File,
+    pub number: u64,
+    pub place: u64,
+}
+
+/// A member of the bridge by the document's letters.
+#[derive(Clone, Copy, Debug)]
+pub struct Member {
+    pub kind: u16,
+    pub species: u16,
+    pub l: u16,
+    pub d: u16,
+    pub x: u16,
+    pub h: u16,
+    pub q: u16,
+    pub code: u16,
+    pub s: [u16; 6],
+    pub a: u16,
+    pub b: u16,
+}
+
+/// An axle: weight in kgf and distance in cm from the axle in front.
+#[derive(Clone, Copy, Debug)]
+pub struct Axle {
+    pub weight: u16,
+    pub distance: u16,
+}
+
+/// A vehicle, front axle first.
+#[derive(Clone, Debug)]
+pub struct Vehicle {
+    pub class: u8,
+    pub track: u16,
+    pub axles: Vec<Axle>,
+}
+
+const SURVEY_HEADER: usize = 6;
+const VEHICLE_HEADER: usize = 9;
+
+fn word(bytes: &[u8], at: usize) -> u16 {
+    u16::from_le_bytes([bytes[at], bytes[at + 1]])
+}
+
+fn within(value: u16, least: u16, greatest: u16) -> bool {
+    least <= value && value <= greatest
+}
+
+/// Tests 1 (too short for the header), 2, 3, 1 in that order; the count where all are passed.
+fn header(bytes: &[u8], mark: &[u8; 3], size: usize, most: u8, each: usize) -> Result<usize, u64> {
+    if bytes.len() < size {
+        return Err(1);
+    }
+    if bytes[..3] != mark[..] || word(bytes, 3) != 1 {
+        return Err(2);
+    }
+    let count = bytes[size - 1];
+    if count < 1 || count > most {
+        return Err(3);
+    }
+    let count = usize::from(count);
+    if bytes.len() != size + each * count {
+        return Err(1);
+    }
+    Ok(count)
+}
+
+/// The first fault of a record: 4, 5, 6, 8, 7.
+fn record_fault(w: &Words) -> Option<u64> {
+    let (kind, code) = (w[KIND], w[SECTION]);
+    if !within(kind, 1, 6) {
+        return Some(4);
+    }
+    if has_species(kind) && !within(w[SPECIES], 1, 8) {
+        return Some(5);
+    }
+    if !sections(kind).contains(&code) {
+        return Some(6);
+    }
+    if (0..w.len()).any(|i| is_unused(kind, code, i) && w[i] != 0) {
+        return Some(8);
+    }
+    let outside = used(kind, code).any(|&(i, least, greatest)| !within(w[i], least, greatest));
+    let beyond_span = kind >= 3 && w[FROM_SUPPORT] >= w[SPAN];
+    if outside || beyond_span || w[PART_A] > w[WHOLE_B] {
+        return Some(7);
+    }
+    None
+}
+
+fn member(w: &Words) -> Member {
+    Member {
+        kind: w[KIND],
+        species: w[SPECIES],
+        l: w[SPAN],
+        d: w[SPACING],
+        x: w[FROM_SUPPORT],
+        h: w[TRUSS_HEIGHT],
+        q: w[DEAD_LOAD],
+        code: w[SECTION],
+        s: [w[S1], w[S2], w[S3], w[S4], w[S5], w[S6]],
+        a: w[PART_A],
+        b: w[WHOLE_B],
+    }
+}
+
+/// A survey file's members.
+pub fn survey(bytes: &[u8]) -> Result<Vec<Member>, Refused> {
+    let refused = |number, place| Refused { file: File::Survey, number, place };
+    let count = header(bytes, b"TBR", SURVEY_HEADER, 64, 32).map_err(|n| refused(n, 0))?;
+    let mut members = Vec::with_capacity(count);
+    for (record, place) in bytes[SURVEY_HEADER..].chunks_exact(32).zip(1..) {
+        let words: Words = std::array::from_fn(|i| word(record, 2 * i));
+        if let Some(number) = record_fault(&words) {
+            return Err(refused(number, place));
+        }
+        members.push(member(&words));
+    }
+    Ok(members)
+}
+
+/// A vehicle file's class, track and axles.
+pub fn vehicle(bytes: &[u8]) -> Result<Vehicle, Refused> {
+    let refused = |number, place| Refused { file: File::Vehicle, number, place };
+    let count = header(bytes, b"TBV", VEHICLE_HEADER, 16, 4).map_err(|n| refused(n, 0))?;
+    let (class, track) = (bytes[5], word(bytes, 6));
+    if class > 1 || !within(track, 100, 300) {
+        return Err(refused(7, 0));
+    }
+    let mut axles = Vec::with_capacity(count);
+    for (record, place) in bytes[VEHICLE_HEADER..].chunks_exact(4).zip(1..) {
+        let axle = Axle { weight: word(record, 0), distance: word(record, 2) };
+        let (least, greatest) = if place == 1 { (0, 0) } else { (1, 2000) };
+        if !within(axle.weight, 1, 60000) || !within(axle.distance, least, greatest) {
+            return Err(refused(7, place));
+        }
+        axles.push(axle);
+    }
+    Ok(Vehicle { class, track, axles })
+}

@@ -1,0 +1,74 @@
+//! Net sections: section modulus W in cm³, area F in cm², dowel capacity T in kgf.
+
+use crate::fraction::{over, whole, Fraction};
+use crate::reader::Member;
+
+/// W of a log by net diameter 13 to 39.
+const LOG_W: [u32; 27] = [
+    216, 269, 331, 402, 482, 573, 673, 785, 909, 1045, 1194, 1357, 1534, 1726, 1932, 2155, 2394,
+    2651, 2925, 3217, 3528, 3859, 4209, 4580, 4973, 5387, 5824,
+];
+const LEAST_LOG: u16 = 13;
+
+/// W of one log; 0 below the table.
+pub(crate) fn log_modulus(net_diameter: u16) -> u32 {
+    match net_diameter.checked_sub(LEAST_LOG) {
+        Some(row) => LOG_W[usize::from(row)],
+        None => 0,
+    }
+}
+
+/// W of a log: the top tier is decayed, the others sound.
+fn log_tiers(diameter: u16, rot: u16, tiers: u16) -> Fraction {
+    let top = log_modulus(diameter.saturating_sub(2 * rot));
+    let others = u32::from(tiers - 1) * log_modulus(diameter);
+    whole(top + others)
+}
+
+/// Net width and net height of a sawn piece.
+fn net_piece(s: &[u16; 6]) -> (i128, i128) {
+    (s[0].saturating_sub(s[2]).into(), s[1].saturating_sub(s[3]).into())
+}
+
+/// W of a section in bending, code 1 or 2.
+pub fn section_modulus(member: &Member) -> Fraction {
+    let s = &member.s;
+    if member.code == 1 {
+        return log_tiers(s[0], s[1], s[2]);
+    }
+    let (b, h) = net_piece(s);
+    over(i128::from(s[4]) * b * h * h, 6)
+}
+
+/// F of a section, code 2 or 4.
+pub fn area(member: &Member) -> Fraction {
+    let s = &member.s;
+    let (gross, lost) = if member.code == 2 {
+        let (b, h) = net_piece(s);
+        (i128::from(s[4]) * b * h, s[5])
+    } else {
+        (i128::from(s[0]), s[1])
+    };
+    whole((gross - i128::from(lost)).max(0))
+}
+
+/// T of one cut of a dowel, code 3: the least of table 4's terms.
+pub fn dowel_capacity(member: &Member) -> Fraction {
+    let s = &member.s;
+    let delta = over(s[1].into(), 10);
+    let c = whole(s[2].saturating_sub(s[4]));
+    let a = whole(s[3].saturating_sub(s[4]));
+    let (middle, outer, bent, a_squares, limit) = match s[0] {
+        1 => (45, 70, 165, 2, 230),
+        2 => (45, 70, 230, 1, 370),
+        _ => (25, 45, 40, 2, 60),
+    };
+    let square = delta * delta;
+    let terms = [
+        whole(middle) * c * delta,
+        whole(outer) * a * delta,
+        whole(bent) * square + whole(a_squares) * a * a,
+        whole(limit) * square,
+    ];
+    terms.into_iter().reduce(|least, term| if term < least { term } else { least }).unwrap()
+}

@@ -1,0 +1,112 @@
+//! The fast twin, for the benchmark: the same judgement in 64-bit arithmetic, trying only the
+//! positions that put an axle over the apex (2 × axles × axles steps a member).
+
+use crate::influence::{offsets, triangle};
+use crate::judge::{bridge, Judged, Rated};
+use crate::permitted::SPECIES;
+use crate::reader::{self, Axle, Member, Refused, Vehicle};
+use crate::section::log_modulus;
+
+/// Six times W.
+fn modulus_in_sixths(m: &Member) -> u64 {
+    let s = m.s.map(u64::from);
+    if m.code == 1 {
+        let net = m.s[0].saturating_sub(2 * m.s[1]);
+        return 6 * (u64::from(log_modulus(net)) + (s[2] - 1) * u64::from(log_modulus(m.s[0])));
+    }
+    let (b, h) = (s[0].saturating_sub(s[2]), s[1].saturating_sub(s[3]));
+    s[4] * b * h * h
+}
+
+/// F in cm².
+fn area(m: &Member) -> u64 {
+    let s = m.s.map(u64::from);
+    if m.code == 2 {
+        let (b, h) = (s[0].saturating_sub(s[2]), s[1].saturating_sub(s[3]));
+        return (s[4] * b * h).saturating_sub(s[5]);
+    }
+    s[0].saturating_sub(s[1])
+}
+
+/// A hundred times T, the diameter being in mm.
+fn dowel_in_hundredths(m: &Member) -> u64 {
+    let s = m.s.map(u64::from);
+    let (delta, c, a) = (s[1], s[2].saturating_sub(s[4]), s[3].saturating_sub(s[4]));
+    let square = delta * delta;
+    let terms = match s[0] {
+        1 => [450 * c * delta, 700 * a * delta, 165 * square + 200 * a * a, 230 * square],
+        2 => [450 * c * delta, 700 * a * delta, 230 * square + 100 * a * a, 370 * square],
+        _ => [250 * c * delta, 450 * a * delta, 40 * square + 200 * a * a, 60 * square],
+    };
+    terms[0].min(terms[1]).min(terms[2]).min(terms[3])
+}
+
+/// `number × factor / divisor` rounded down, where the product alone may leave 64 bits.
+fn scaled(number: u64, factor: u64, divisor: u64) -> u64 {
+    number / divisor * factor + number % divisor * factor / divisor
+}
+
+/// The permitted load from whole numbers, the formulas' constants multiplied out.
+fn permitted_load(m: &Member, vehicle: &Vehicle) -> u64 {
+    let [l, x, h, q, d] = [m.l, m.x, m.h, m.q, m.d].map(u64::from);
+    let n = if vehicle.class == 0 { 14 } else { 11 };
+    let (k, shear) = match m.kind {
+        6 => (0, 0),
+        _ => SPECIES[usize::from(m.species - 1)],
+    };
+    let (k, shear) = (u64::from(k), u64::from(shear));
+    let side = 2 * d - u64::from(vehicle.track.min(m.d));
+    if m.kind == 1 {
+        let net = (25_600 * modulus_in_sixths(m) * k).saturating_sub(12 * q * l * l);
+        return scaled(net, 2 * d, n * side * l * l);
+    }
+    if m.kind == 2 {
+        let net = (64_000 * modulus_in_sixths(m) * k).saturating_sub(36 * q * l * l);
+        return net / (3 * n * x * l);
+    }
+    let (a, b) = if m.kind == 3 { (1, 1) } else { (m.a.into(), m.b.into()) };
+    let front = match m.kind {
+        3 => 20_000 * area(m) * k,
+        4 => 2 * dowel_in_hundredths(m) * k * u64::from(m.s[5]),
+        5 => 2_240 * area(m) * shear,
+        _ => 3_800_000 * area(m),
+    };
+    let reach = (l - x) * x;
+    let net = (front * h * b).saturating_sub(12 * q * a * reach);
+    scaled(net, 2 * d, a * n * side * reach)
+}
+
+/// The greatest sum over the positions that put an axle over the apex.
+fn greatest_sum(base: usize, apex: usize, axles: &[Axle], behind: &[usize]) -> u64 {
+    let mut greatest = 0;
+    for over_apex in behind {
+        let front = apex + over_apex;
+        let mut sum = 0;
+        for (axle, offset) in axles.iter().zip(behind) {
+            let s = front.saturating_sub(*offset);
+            let height = if s <= apex { s * (base - apex) } else { base.saturating_sub(s) * apex };
+            sum += u64::from(axle.weight) * height as u64;
+        }
+        greatest = greatest.max(sum);
+    }
+    greatest
+}
+
+fn vehicle_load(m: &Member, axles: &[Axle], behind: &[usize]) -> u64 {
+    let (base, apex) = triangle(m);
+    let forth = greatest_sum(base, apex, axles, behind);
+    let back = greatest_sum(base, base - apex, axles, behind);
+    (400 * forth.max(back)).div_ceil((apex * (base - apex) * base) as u64)
+}
+
+/// The judgement, fast.
+pub fn judge(survey: &[u8], vehicle: &[u8]) -> Result<Judged, Refused> {
+    let members = reader::survey(survey)?;
+    let vehicle = reader::vehicle(vehicle)?;
+    let behind = offsets(&vehicle.axles);
+    let rate = |member: &Member| Rated {
+        permitted: permitted_load(member, &vehicle),
+        vehicle: vehicle_load(member, &vehicle.axles, &behind),
+    };
+    Ok(bridge(members.iter().map(rate).collect()))
+}
