@@ -1,0 +1,156 @@
+//! The fields of each kind of member, of each section, and of a vehicle, with their limits.
+
+use super::field::{number, words, Field};
+
+/// A kind of member: its term, its number, and its fields, the section's own excepted.
+pub struct Kind {
+    pub name: &'static str,
+    pub code: u16,
+    pub fields: &'static [Field],
+}
+
+/// A section: its term, its code and its fields.
+pub struct Section {
+    pub name: &'static str,
+    pub code: u16,
+    pub fields: &'static [Field],
+}
+
+const SPECIES: Field = words(
+    "species",
+    1,
+    &[
+        ("pine", 1),
+        ("spruce", 2),
+        ("larch", 3),
+        ("cedar", 4),
+        ("fir", 5),
+        ("oak", 6),
+        ("ash", 7),
+        ("maple", 7),
+        ("hornbeam", 7),
+        ("beech", 8),
+    ],
+);
+const SPAN: Field = number("span", 2, 100, 5000, "cm");
+const TRUSS_SPACING: Field = number("truss spacing", 2, 100, 5000, "cm");
+const SPACING: Field = number("spacing", 3, 10, 1000, "cm");
+/// Beside these limits it is below the span.
+const FROM_SUPPORT: Field = number("from support", 4, 1, 4999, "cm");
+const PANEL: Field = number("panel length", 4, 10, 1000, "cm");
+const TRUSS_HEIGHT: Field = number("truss height", 5, 10, 500, "cm");
+const DEAD_LOAD: Field = number("dead load", 6, 0, 10000, "kgf/m");
+/// A and B: the joint carries the part A of the whole B of the chord's force; A is at most B.
+const JOINT_PART: Field = number("joint part", 14, 1, 1000, "");
+const CHORD_WHOLE: Field = number("chord whole", 15, 1, 1000, "");
+
+/// The word of the section code.
+pub const SECTION_WORD: usize = 7;
+const IN_BENDING: Field = words("section", SECTION_WORD, &[("log", 1), ("sawn", 2)]);
+const OF_CHORD: Field = words("section", SECTION_WORD, &[("sawn", 2)]);
+const OF_DOWELS: Field = words("section", SECTION_WORD, &[("dowels", 3)]);
+const OF_AREA: Field = words("section", SECTION_WORD, &[("area", 4)]);
+
+/// The six kinds by number.
+pub const KINDS: [Kind; 6] = [
+    Kind { name: "stringer", code: 1, fields: &[SPECIES, SPAN, SPACING, DEAD_LOAD, IN_BENDING] },
+    Kind {
+        name: "cross beam",
+        code: 2,
+        fields: &[SPECIES, TRUSS_SPACING, PANEL, DEAD_LOAD, IN_BENDING],
+    },
+    Kind {
+        name: "chord",
+        code: 3,
+        fields: &[SPECIES, SPAN, SPACING, FROM_SUPPORT, TRUSS_HEIGHT, DEAD_LOAD, OF_CHORD],
+    },
+    Kind { name: "dowelled joint", code: 4, fields: &OF_JOINT_IN_DOWELS },
+    Kind { name: "keyed joint", code: 5, fields: &OF_JOINT_IN_AREA },
+    Kind { name: "steel plates", code: 6, fields: OF_JOINT_IN_AREA.split_at(1).1 },
+];
+
+const OF_JOINT_IN_DOWELS: [Field; 9] = [
+    SPECIES,
+    SPAN,
+    SPACING,
+    FROM_SUPPORT,
+    TRUSS_HEIGHT,
+    DEAD_LOAD,
+    JOINT_PART,
+    CHORD_WHOLE,
+    OF_DOWELS,
+];
+/// Species first: steel plates are without it.
+const OF_JOINT_IN_AREA: [Field; 9] = [
+    SPECIES,
+    SPAN,
+    SPACING,
+    FROM_SUPPORT,
+    TRUSS_HEIGHT,
+    DEAD_LOAD,
+    JOINT_PART,
+    CHORD_WHOLE,
+    OF_AREA,
+];
+
+const LOG: [Field; 3] = [
+    number("diameter", 8, 13, 39, "cm"),
+    number("rot", 9, 0, 60, "cm"),
+    number("tiers", 10, 1, 3, ""),
+];
+/// Lost area last: a beam in bending has none.
+const SAWN: [Field; 6] = [
+    number("width", 8, 1, 60, "cm"),
+    number("height", 9, 1, 60, "cm"),
+    number("side rot", 10, 0, 60, "cm"),
+    number("top rot", 11, 0, 60, "cm"),
+    number("pieces", 12, 1, 40, ""),
+    number("lost area", 13, 0, 10000, "cm2"),
+];
+const DOWELS: [Field; 6] = [
+    words("type", 8, &[("steel", 1), ("nail", 2), ("oak", 3)]),
+    number("diameter", 9, 1, 60, "mm"),
+    number("middle thickness", 10, 1, 60, "cm"),
+    number("outer thickness", 11, 1, 60, "cm"),
+    number("rot", 12, 0, 60, "cm"),
+    number("cuts", 13, 1, 200, ""),
+];
+const AREA: [Field; 2] =
+    [number("area", 8, 1, 10000, "cm2"), number("lost area", 9, 0, 10000, "cm2")];
+
+/// The four sections by code.
+pub const SECTIONS: [Section; 4] = [
+    Section { name: "log", code: 1, fields: &LOG },
+    Section { name: "sawn", code: 2, fields: &SAWN },
+    Section { name: "dowels", code: 3, fields: &DOWELS },
+    Section { name: "area", code: 4, fields: &AREA },
+];
+
+impl Section {
+    /// The section's fields in a member of this kind.
+    pub fn fields_in(&self, kind: &Kind) -> &'static [Field] {
+        let bending = kind.code <= 2;
+        match self.code {
+            2 if bending => SAWN.split_at(5).0,
+            _ => self.fields,
+        }
+    }
+}
+
+/// Class and track of a vehicle.
+pub const HEADING: [Field; 2] = [
+    words("class", 0, &[("lorry", 0), ("tractor", 1), ("trailer", 1)]),
+    number("track", 1, 100, 300, "cm"),
+];
+
+const WEIGHT: Field = number("weight", 0, 1, 60000, "kgf");
+
+/// The first axle: it has no axle in front.
+pub const FIRST_AXLE: [Field; 2] = [WEIGHT, number("distance", 1, 0, 0, "cm")];
+
+/// The others: the distance is from the axle in front.
+pub const AXLE: [Field; 2] = [WEIGHT, number("distance", 1, 1, 2000, "cm")];
+
+/// Most members of a survey and most axles of a vehicle.
+pub const MOST_MEMBERS: usize = 64;
+pub const MOST_AXLES: usize = 16;

@@ -1,0 +1,73 @@
+//! A refused file, and every refusal number in words.
+
+use std::fmt;
+
+/// Which of the two files.
+#[derive(Clone, Copy, Debug, PartialEq, Eq)]
+pub enum Which {
+    /// The survey of the bridge.
+    Survey,
+    /// The vehicle.
+    Vehicle,
+}
+
+impl fmt::Display for Which {
+    fn fmt(&self, f: &mut fmt::Formatter) -> fmt::Result {
+        f.write_str(match self {
+            Which::Survey => "survey",
+            Which::Vehicle => "vehicle",
+        })
+    }
+}
+
+/// Why a file was not taken.
+#[derive(Clone, Copy, Debug, PartialEq, Eq)]
+pub struct Refusal {
+    /// The file at fault.
+    pub file: Which,
+    /// The number: 1 length, 2 mark or version, 3 count, 4 kind, 5 species, 6 section code,
+    /// 7 a number outside its range, 8 an unused field that is not 0.
+    pub number: u64,
+    /// The member or axle at fault, from 1; 0 where the fault is in none of them.
+    pub place: u64,
+}
+
+impl Refusal {
+    /// What the number means for this file, in words.
+    pub fn meaning(&self) -> &'static str {
+        match (self.number, self.file) {
+            (1, _) => "its length is not what its count says, or it is too short to hold a count",
+            (2, Which::Survey) => "it does not begin with the letters TBR and version 1",
+            (2, Which::Vehicle) => "it does not begin with the letters TBV and version 1",
+            (3, Which::Survey) => "its count of members is not 1 to 64",
+            (3, Which::Vehicle) => "its count of axles is not 1 to 16",
+            (4, _) => "the kind is not 1 to 6",
+            (5, _) => "the species is not 1 to 8",
+            (6, _) => "the section code does not suit the kind",
+            (7, Which::Survey) => "a number is outside its range, or A is above B",
+            (7, Which::Vehicle) if self.place == 0 => "the class or the track is outside its range",
+            (7, Which::Vehicle) => {
+                "the weight or the distance is outside its range; the first axle's distance is 0"
+            }
+            (8, _) => {
+                "a field that the kind or the section does not use is not 0, \
+                 or a beam in bending has lost area"
+            }
+            _ => "a refusal number that has no words here",
+        }
+    }
+}
+
+impl fmt::Display for Refusal {
+    fn fmt(&self, f: &mut fmt::Formatter) -> fmt::Result {
+        write!(f, "{} refused, number {}", self.file, self.number)?;
+        match (self.place, self.file) {
+            (0, _) => {}
+            (place, Which::Survey) => write!(f, " at member {place}")?,
+            (place, Which::Vehicle) => write!(f, " at axle {place}")?,
+        }
+        write!(f, ": {}", self.meaning())
+    }
+}
+
+impl std::error::Error for Refusal {}
