@@ -1,0 +1,91 @@
+//! The proved library against the reference: 100,000 pairs of files, every answer equal.
+
+mod common;
+
+use common::{expected, library, seed};
+use reference::generate::*;
+use std::collections::BTreeMap;
+
+const PAIRS: u64 = 100_000;
+
+/// Files for the library: most are small, as brute force is dear; one in 400 is the largest there is.
+fn pair(random: &mut Random) -> (Vec<u8>, Vec<u8>) {
+    let spread = if random.once_in(2) { Spread::Wide } else { Spread::Usual };
+    let (members, axles) = match random.below(400) {
+        0 => {
+            let survey = survey_bytes(&full_survey(random, spread));
+            return (survey, vehicle_bytes(&vehicle(random, spread, 16)));
+        }
+        1..=60 => return some_damage(random),
+        61..=120 => match at_the_limit(random) {
+            Some((survey, vehicle)) => return (survey, vehicle_bytes(&vehicle)),
+            None => (1, 1),
+        },
+        121..=140 => (1 + random.below(16), 1 + random.below(16)),
+        _ => (1 + random.below(3), 1 + random.below(5)),
+    };
+    let survey = survey_bytes(&survey(random, spread, members));
+    (survey, vehicle_bytes(&vehicle(random, spread, axles)))
+}
+
+#[test]
+fn the_library_answers_as_the_reference() {
+    let seed = seed(0x7b2_0001);
+    let mut seen: BTreeMap<String, u64> = BTreeMap::new();
+    for i in 0..PAIRS {
+        let mut random = Random::new(seed + i);
+        let (survey, vehicle) = pair(&mut random);
+        let answer = library(&survey, &vehicle);
+        assert_eq!(answer, expected(&survey, &vehicle), "TBR_SEED={seed}, pair {i}");
+        let what = match answer {
+            Ok((0, _, _)) => "figure 0".to_string(),
+            Ok((_, _, passes)) => format!("passes {passes}"),
+            Err(refused) => format!("{:?} {}", refused.file, refused.number),
+        };
+        *seen.entry(what).or_default() += 1;
+    }
+    println!("{seen:?}");
+    // The pairs are worth something only if all answers are among them.
+    let refusals = (1..=8).map(|n| format!("Survey {n}"));
+    let refusals = refusals.chain([1, 2, 3, 7].map(|n| format!("Vehicle {n}")));
+    let usual = ["passes true", "passes false", "figure 0"].map(str::to_string);
+    for what in usual.into_iter().chain(refusals) {
+        assert!(seen.get(&what).copied().unwrap_or(0) >= 20, "{what} is rare: {seen:?}");
+    }
+}
+
+/// One axle that brings exactly the permitted load passes, 1 kgf/m more does not.
+#[test]
+fn verdicts_turn_at_the_limit() {
+    let seed = seed(0x7b2_0002);
+    let mut random = Random::new(seed);
+    let (mut at, mut over) = (0, 0);
+    for i in 0..5000 {
+        let Some((survey, vehicle)) = at_the_limit(&mut random) else { continue };
+        let vehicle = vehicle_bytes(&vehicle);
+        let judged = reference::judge(&survey, &vehicle).expect("a sound pair");
+        let rated = judged.members[0];
+        at += u32::from(rated.vehicle == rated.permitted);
+        over += u32::from(rated.vehicle == rated.permitted + 1);
+        let answer = tbr::judge(&survey, &vehicle).expect("a sound pair");
+        assert_eq!(answer.passes, rated.vehicle <= rated.permitted, "TBR_SEED={seed}, {i}");
+    }
+    assert!(at > 200 && over > 200, "{at} at the limit, {over} just over");
+}
+
+/// Each kind alone, each of its sections, every answer equal.
+#[test]
+fn each_kind_and_section_alone() {
+    let seed = seed(0x7b2_0003);
+    let mut random = Random::new(seed);
+    let mut seen: BTreeMap<(u16, u16), u32> = BTreeMap::new();
+    for i in 0..3000 {
+        let spread = if i % 2 == 0 { Spread::Wide } else { Spread::Usual };
+        let members = survey(&mut random, spread, 1);
+        let vehicle = vehicle_bytes(&vehicle(&mut random, spread, 2));
+        let survey = survey_bytes(&members);
+        assert_eq!(library(&survey, &vehicle), expected(&survey, &vehicle), "TBR_SEED={seed}, {i}");
+        *seen.entry((members[0][0], members[0][7])).or_default() += 1;
+    }
+    assert!(seen.len() == 8 && seen.values().all(|&times| times > 100), "{seen:?}");
+}
