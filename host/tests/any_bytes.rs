@@ -11,7 +11,7 @@ const ROUNDS: u64 = 160;
 const SHORT: u64 = 100_000;
 
 fn agree(survey: &[u8], vehicle: &[u8], seed: u64) {
-    assert_eq!(library(survey, vehicle), expected(survey, vehicle), "seed {seed}");
+    assert_eq!(library(survey, vehicle), expected(survey, vehicle), "TBR_SEED={seed}");
 }
 
 #[test]

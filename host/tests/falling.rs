@@ -12,12 +12,12 @@ const PAIRS: u64 = 20_000;
 
 fn judged(members: &[Words], vehicle: &VehicleWords, seed: u64) -> Judgement {
     let answer = tbr::judge(&survey_bytes(members), &vehicle_bytes(vehicle));
-    answer.unwrap_or_else(|refusal| panic!("seed {seed}: {refusal}"))
+    answer.unwrap_or_else(|refusal| panic!("TBR_SEED={seed}: {refusal}"))
 }
 
 fn never_rises(first: &Judgement, second: &Judgement, seed: u64) {
-    assert!(second.figure <= first.figure, "seed {seed}: {first:?} then {second:?}");
-    assert!(first.passes || !second.passes, "seed {seed}: {first:?} then {second:?}");
+    assert!(second.figure <= first.figure, "TBR_SEED={seed}: {first:?} then {second:?}");
+    assert!(first.passes || !second.passes, "TBR_SEED={seed}: {first:?} then {second:?}");
 }
 
 #[test]

@@ -1,0 +1,196 @@
+//! The command line `tbr`: what it prints and its exit status.
+
+mod common;
+
+use common::have_bridge;
+use std::path::{Path, PathBuf};
+use std::process::{Command, Output};
+
+/// A folder of a test's own, removed at its end.
+struct Folder(PathBuf);
+
+impl Folder {
+    fn new(name: &str) -> Folder {
+        let path = Path::new(env!("CARGO_TARGET_TMPDIR")).join(name);
+        std::fs::create_dir_all(&path).unwrap();
+        Folder(path)
+    }
+
+    fn path(&self, name: &str) -> String {
+        self.0.join(name).to_str().unwrap().to_string()
+    }
+
+    fn file(&self, name: &str, bytes: &[u8]) -> String {
+        std::fs::write(self.path(name), bytes).unwrap();
+        self.path(name)
+    }
+}
+
+impl Drop for Folder {
+    fn drop(&mut self) {
+        let _ = std::fs::remove_dir_all(&self.0);
+    }
+}
+
+fn tbr(words: &[&str]) -> Command {
+    let mut command = Command::new(env!("CARGO_BIN_EXE_tbr"));
+    command.args(words).current_dir(Path::new(env!("CARGO_MANIFEST_DIR")).join("../samples"));
+    command
+}
+
+/// Exit status, standard output, standard error.
+fn run(words: &[&str]) -> (i32, String, String) {
+    have_bridge();
+    let Output { status, stdout, stderr } = tbr(words).output().unwrap();
+    let text = |bytes| String::from_utf8(bytes).unwrap();
+    (status.code().unwrap(), text(stdout), text(stderr))
+}
+
+#[test]
+fn a_bridge_that_passes() {
+    let (status, table, _) = run(&["judge", "case-a.tbr", "case-l.tbv"]);
+    let expected = "\
+place  member          permitted kgf/m  vehicle kgf/m      used  verdict
+    1  stringer                   1720           1200      70 %  pass
+
+figure     1720 kgf/m
+governing  member 1, stringer
+verdict    pass
+";
+    assert_eq!((status, table.as_str()), (0, expected));
+}
+
+#[test]
+fn a_bridge_that_is_refused() {
+    let (status, table, _) = run(&["judge", "case-a.tbr", "lorry.tbv"]);
+    assert_eq!(status, 1);
+    assert!(
+        table.contains("    1  stringer                   1720           2780     162 %  refuse")
+    );
+    assert!(table.ends_with("verdict    refuse\n"), "{table}");
+}
+
+#[test]
+fn all_kinds_by_name() {
+    let (status, table, _) = run(&["judge", "forest-road.tbr", "lorry.tbv"]);
+    assert_eq!(status, 0);
+    for kind in ["stringer", "cross beam", "chord", "dowelled joint", "keyed joint", "steel plates"]
+    {
+        assert!(table.contains(kind), "{kind}: {table}");
+    }
+    assert!(table.contains("governing  member 7, steel plates"), "{table}");
+}
+
+#[test]
+fn a_member_that_bears_nothing_has_no_share() {
+    let folder = Folder::new("nothing");
+    let text = std::fs::read_to_string(
+        Path::new(env!("CARGO_MANIFEST_DIR")).join("../samples/case-a.txt"),
+    );
+    let rotten = folder.file("rotten.txt", text.unwrap().replace("rot 0", "rot 8").as_bytes());
+    let survey = folder.path("rotten.tbr");
+    assert_eq!(run(&["make", &rotten, &survey]).0, 0);
+    let (status, table, _) = run(&["judge", &survey, "case-l.tbv"]);
+    assert_eq!(status, 1);
+    assert!(
+        table.contains("    1  stringer                      0           1200         -  refuse")
+    );
+}
+
+#[test]
+fn refused_files_are_explained() {
+    let folder = Folder::new("refused");
+    let sample = |name: &str| {
+        std::fs::read(Path::new(env!("CARGO_MANIFEST_DIR")).join("../samples").join(name)).unwrap()
+    };
+    let mut survey = sample("forest-road.tbr");
+    survey[6 + 2 * 32] = 9;
+    let survey = folder.file("kind.tbr", &survey);
+    let (status, out, error) = run(&["judge", &survey, "lorry.tbv"]);
+    assert_eq!((status, out.as_str()), (2, ""));
+    assert!(error.contains("kind.tbr: survey refused, number 4 at member 3"), "{error}");
+    assert!(error.contains("its numbers: kind 9, species 1, l 420, d 0, x 300"), "{error}");
+
+    let mut vehicle = sample("lorry.tbv");
+    vehicle[9] = 0;
+    vehicle[10] = 0;
+    let vehicle = folder.file("light.tbv", &vehicle);
+    let (status, _, error) = run(&["judge", "case-a.tbr", &vehicle]);
+    assert_eq!(status, 2);
+    assert!(error.contains("light.tbv: vehicle refused, number 7 at axle 1"), "{error}");
+    assert!(error.contains("its numbers: weight 0, distance 0"), "{error}");
+
+    let (status, _, error) = run(&["judge", "lorry.tbv", "case-a.tbr"]);
+    assert_eq!(status, 2);
+    assert!(error.contains("lorry.tbv: survey refused, number 2"), "{error}");
+    let empty = folder.file("empty", &[]);
+    assert_eq!(run(&["show", &empty]).0, 2);
+    assert_eq!(run(&["judge", &empty, &empty]).0, 2);
+}
+
+#[test]
+fn show_names_everything() {
+    let (status, text, _) = run(&["show", "case-a.tbr"]);
+    let expected = "\
+case-a.tbr: survey of 1 member
+  1  stringer: species pine, span 500 cm, spacing 140 cm, dead load 100 kgf/m
+     section log: diameter 28 cm, rot 0 cm, tiers 1
+";
+    assert_eq!((status, text.as_str()), (0, expected));
+    let (status, text, _) = run(&["show", "lorry.tbv"]);
+    let expected = "\
+lorry.tbv: vehicle of 2 axles
+     class lorry, track 179 cm
+  1  axle: weight 2575 kgf, distance 0 cm
+  2  axle: weight 6950 kgf, distance 380 cm
+";
+    assert_eq!((status, text.as_str()), (0, expected));
+}
+
+#[test]
+fn make_goes_there_and_back() {
+    let folder = Folder::new("make");
+    let (text, file) = (folder.path("bridge.txt"), folder.path("bridge.tbr"));
+    assert_eq!(run(&["make", "--back", "forest-road.tbr", &text]).0, 0);
+    let (status, said, _) = run(&["make", &text, &file]);
+    assert_eq!((status, said), (0, format!("{file}: survey of 7 members\n")));
+    let original = Path::new(env!("CARGO_MANIFEST_DIR")).join("../samples/forest-road.tbr");
+    assert_eq!(std::fs::read(&file).unwrap(), std::fs::read(original).unwrap());
+    let (_, printed, _) = run(&["make", "--back", "forest-road.tbr"]);
+    assert_eq!(printed, std::fs::read_to_string(&text).unwrap());
+}
+
+#[test]
+fn a_wrong_text_form_makes_no_file() {
+    let folder = Folder::new("wrong");
+    let text = folder.file("wrong.txt", b"vehicle, class lorry, track 19 cm\n");
+    let file = folder.path("wrong.tbv");
+    let (status, _, error) = run(&["make", &text, &file]);
+    assert_eq!(status, 2);
+    assert!(error.contains("wrong.txt: line 1, track: 19 is outside 100 to 300 cm"), "{error}");
+    assert!(!Path::new(&file).exists());
+}
+
+#[test]
+fn help_and_wrong_use() {
+    let (status, help, _) = run(&["--help"]);
+    assert!(status == 0 && help.contains("tbr judge SURVEY VEHICLE"));
+    for words in [&[][..], &["judge"], &["judge", "case-a.tbr"], &["rate", "x"], &["make", "x"]] {
+        let (status, out, error) = run(words);
+        assert_eq!((status, out.as_str()), (3, ""), "{words:?}");
+        assert!(error.contains("tbr judge SURVEY VEHICLE"), "{words:?}: {error}");
+    }
+    let (status, _, error) = run(&["judge", "no-such.tbr", "lorry.tbv"]);
+    assert!(status == 3 && error.contains("cannot read no-such.tbr"), "{error}");
+}
+
+/// The members' lines come from the program and from nowhere else.
+#[test]
+fn without_the_program_there_is_no_table() {
+    let mut command = tbr(&["judge", "case-a.tbr", "case-l.tbv"]);
+    let output = command.env("TBR_BRIDGE", "no-such-program").output().unwrap();
+    assert_eq!((output.status.code(), output.stdout.len()), (Some(3), 0));
+    let mut command = tbr(&["judge", "case-a.tbr", "case-l.tbv"]);
+    let output = command.env("TBR_BRIDGE", "/bin/cat").output().unwrap();
+    assert_eq!((output.status.code(), output.stdout.len()), (Some(3), 0));
+}

@@ -1,0 +1,258 @@
+//! The text form: round trips, the limits of every field, and every error by line and field.
+
+mod common;
+
+use common::seed;
+use reference::generate::*;
+use reference::reader;
+use tbr::file::{self, Contents};
+use tbr::form::{read, write, Field, Problem, Value, AXLE, FIRST_AXLE, HEADING, KINDS, SECTIONS};
+
+const STRINGER: &str = "stringer, species pine, span 500 cm, spacing 140 cm, dead load 100 kgf/m, \
+                        section log, diameter 28 cm, rot 0 cm, tiers 1";
+const JOINT: &str = "steel plates, span 1200 cm, spacing 420 cm, from support 600 cm, \
+                     truss height 160 cm, dead load 700 kgf/m, joint part 2, chord whole 4, \
+                     section area, area 14 cm2, lost area 2 cm2";
+const AXLES: &str = "axle, weight 1500 kgf, distance 0 cm\naxle, weight 3000 kgf, distance 370 cm";
+
+#[test]
+fn files_go_to_text_and_back() {
+    let seed = seed(0x7e87_0001);
+    let mut random = Random::new(seed);
+    for i in 0..2000 {
+        let spread = if i % 2 == 0 { Spread::Wide } else { Spread::Usual };
+        let (members, axles) = (1 + random.below(64), 1 + random.below(16));
+        let survey = survey_bytes(&survey(&mut random, spread, members));
+        let vehicle = vehicle_bytes(&vehicle(&mut random, spread, axles));
+        let surveyed = Contents::Survey(file::members(&survey));
+        let driven = Contents::Vehicle(file::vehicle(&vehicle));
+        for (contents, bytes) in [(surveyed, survey), (driven, vehicle)] {
+            assert_eq!(contents.bytes(), bytes, "TBR_SEED={seed}, {i}");
+            let text = write(&contents);
+            assert_eq!(read(text.as_bytes()), Ok(contents), "TBR_SEED={seed}, {i}: {text}");
+        }
+    }
+}
+
+#[test]
+fn order_comments_and_blanks_are_free() {
+    let plain = read(format!("survey\n{STRINGER}\n").as_bytes()).unwrap();
+    let clauses: Vec<&str> = STRINGER.split(", ").collect();
+    let mut turned = clauses[1..].to_vec();
+    turned.reverse();
+    let turned = format!(
+        "\n# a bridge\n  survey # of one member\r\n\n {} ,{}  # sound\n\n",
+        clauses[0],
+        turned.join(" ,\t ")
+    );
+    assert_eq!(read(turned.as_bytes()), Ok(plain));
+}
+
+/// Words with one number: maple and hornbeam are ash, a heavy trailer is of the tractors' class.
+#[test]
+fn words_with_one_number() {
+    let species = |word| read(format!("survey\n{}", STRINGER.replace("pine", word)).as_bytes());
+    assert_eq!(species("maple"), species("ash"));
+    assert_eq!(species("hornbeam"), species("ash"));
+    let class =
+        |word| read(format!("vehicle, class {word}, track 190 cm\n{AXLES}").as_bytes()).unwrap();
+    assert_eq!(class("trailer"), class("tractor"));
+    assert_ne!(class("lorry"), class("tractor"));
+}
+
+/// The reference takes the file of this text.
+fn is_taken(contents: &Contents) -> bool {
+    match contents {
+        Contents::Survey(_) => reader::survey(&contents.bytes()).is_ok(),
+        Contents::Vehicle(_) => reader::vehicle(&contents.bytes()).is_ok(),
+    }
+}
+
+/// The line with this field's number replaced.
+fn with_number(line: &str, field: &Field, number: u64) -> String {
+    let value = |clause: &str| clause.strip_prefix(field.name).is_some_and(|r| r.starts_with(' '));
+    let replaced = |clause: &str| {
+        let unit = clause.rsplit(' ').next().filter(|word| word.parse::<u64>().is_err());
+        format!("{} {number} {}", field.name, unit.unwrap_or("")).trim().to_string()
+    };
+    let clauses = line.split(", ").map(|c| if value(c) { replaced(c) } else { c.to_string() });
+    clauses.collect::<Vec<_>>().join(", ")
+}
+
+/// At both limits the line is taken, by the reference too; one step beyond, the field is named.
+fn hold_limits(before: &str, line: &str, fields: &[&Field]) {
+    let text = |field: &Field, number| format!("{before}{}\n", with_number(line, field, number));
+    let line_number = before.lines().count() + 1;
+    for field in fields {
+        let Value::Number { least, greatest, .. } = field.value else { continue };
+        let (least, greatest) = (u64::from(least), u64::from(greatest));
+        for number in [least, greatest] {
+            let contents = read(text(field, number).as_bytes());
+            let contents = contents.unwrap_or_else(|e| panic!("{e}: {}", text(field, number)));
+            assert!(is_taken(&contents), "{}", text(field, number));
+        }
+        for number in [least.wrapping_sub(1), greatest + 1, 65_536 + least, u64::MAX] {
+            let error = read(text(field, number).as_bytes()).unwrap_err();
+            assert_eq!((error.line, error.field.as_str()), (line_number, field.name), "{error}");
+            assert!(matches!(error.problem, Problem::Outside { .. }), "{error}");
+        }
+    }
+}
+
+#[test]
+fn the_limits_of_every_field_of_every_kind_and_section() {
+    for kind in &KINDS {
+        let (chosen, _) = kind.fields.split_last().unwrap();
+        let Value::Word(codes) = chosen.value else { panic!("{}", chosen.name) };
+        for (_, code) in codes {
+            let section = SECTIONS.iter().find(|section| section.code == *code).unwrap();
+            let mut words = [1; 16];
+            // Within all limits, and so that the other of two bound fields can go to its own.
+            [words[0], words[2], words[7]] = [kind.code, 5000, section.code];
+            [words[3], words[5], words[15]] = [10, 10, 1000];
+            [words[4], words[8]] = [10, if *code == 1 { 13 } else { 1 }];
+            let line = write(&Contents::Survey(vec![words]));
+            let line = line.lines().nth(1).unwrap();
+            let fields = kind.fields.iter().chain(section.fields_in(kind));
+            // The span and the chord's whole are held on their own: they bind other fields.
+            let fields: Vec<&Field> = fields.filter(|f| f.word != 2 && f.word != 15).collect();
+            hold_limits("survey\n", line, &fields);
+            let low = with_number(line, &kind.fields[fields_before_span(kind.fields)], 100);
+            let span: Vec<&Field> = kind.fields.iter().filter(|f| f.word == 2).collect();
+            hold_limits("survey\n", &low, &span);
+            let whole: Vec<&Field> = kind.fields.iter().filter(|f| f.word == 15).collect();
+            hold_limits("survey\n", line, &whole);
+        }
+    }
+}
+
+fn fields_before_span(fields: &[Field]) -> usize {
+    fields.iter().position(|field| field.word == 2).unwrap()
+}
+
+#[test]
+fn the_limits_of_every_field_of_a_vehicle() {
+    let heading = "vehicle, class lorry, track 190 cm";
+    let axles: Vec<&str> = AXLES.lines().collect();
+    let all = |fields: &'static [Field]| fields.iter().collect::<Vec<_>>();
+    hold_limits(&format!("{heading}\n"), axles[0], &all(&FIRST_AXLE));
+    hold_limits(&format!("{heading}\n{}\n", axles[0]), axles[1], &all(&AXLE));
+    for (number, taken) in [(100, true), (300, true), (99, false), (301, false)] {
+        let heading = with_number(heading, &HEADING[1], number);
+        let answer = read(format!("{heading}\n{AXLES}").as_bytes());
+        assert_eq!(answer.map(|contents| is_taken(&contents)).ok(), taken.then_some(true));
+    }
+}
+
+/// Line, field and message of the error of this text.
+fn error(text: &str) -> String {
+    read(text.as_bytes()).unwrap_err().to_string()
+}
+
+/// The same for a stringer with a part replaced.
+fn stringer(from: &str, to: &str) -> String {
+    assert!(STRINGER.contains(from));
+    error(&format!("survey\n\n{}\n", STRINGER.replace(from, to)))
+}
+
+#[test]
+fn errors_of_the_heading() {
+    let heading = "heading: the first line must be 'survey' or 'vehicle, ..'";
+    assert_eq!(error(""), format!("line 1, {heading}"));
+    assert_eq!(error("# nothing\n\n"), format!("line 1, {heading}"));
+    assert_eq!(error(&format!("\n{STRINGER}\n")), format!("line 2, {heading}"));
+    assert_eq!(error("survey, old\n"), "line 1, 'old': there is no such field here");
+    assert_eq!(error("survey\n"), "line 1, member: none follows the heading");
+    assert_eq!(
+        error("vehicle, class lorry, track 190 cm\n"),
+        "line 1, axle: none follows the heading"
+    );
+    assert_eq!(error(&format!("vehicle, class lorry\n{AXLES}")), "line 1, track: is missing");
+    assert_eq!(
+        error(&format!("vehicle, class bus, track 190 cm\n{AXLES}")),
+        "line 1, class: 'bus' is not one of: lorry, tractor, trailer"
+    );
+    let line = read(b"survey\nstringer \xff\n").unwrap_err().to_string();
+    assert_eq!(line, "line 2, text: this is not text (UTF-8)");
+}
+
+#[test]
+fn errors_of_counts() {
+    let survey = |count| format!("survey\n{}", format!("{STRINGER}\n").repeat(count));
+    assert!(read(survey(64).as_bytes()).is_ok());
+    assert_eq!(error(&survey(65)), "line 66, member: a file holds at most 64");
+    let heading = "vehicle, class lorry, track 190 cm";
+    let others = |count| "axle, weight 5 kgf, distance 90 cm\n".repeat(count);
+    let vehicle = |count: usize| format!("{heading}\n{AXLES}\n{}", others(count - 2));
+    assert!(read(vehicle(16).as_bytes()).is_ok());
+    assert_eq!(error(&vehicle(17)), "line 18, axle: a file holds at most 16");
+}
+
+#[test]
+fn errors_of_a_member() {
+    assert_eq!(
+        stringer("stringer", "strut"),
+        "line 3, kind: 'strut' is not one of: stringer, cross beam, chord, dowelled joint, \
+         keyed joint, steel plates"
+    );
+    assert_eq!(
+        stringer("pine", "palm"),
+        "line 3, species: 'palm' is not one of: pine, spruce, larch, cedar, fir, oak, ash, maple, \
+         hornbeam, beech"
+    );
+    assert_eq!(
+        stringer("section log", "section area"),
+        "line 3, section: 'area' is not one of: log, sawn"
+    );
+    assert_eq!(stringer(", section log", ""), "line 3, section: is missing");
+    assert_eq!(stringer(", span 500 cm", ""), "line 3, span: is missing");
+    assert_eq!(stringer(", tiers 1", ", tiers 1, tiers 2"), "line 3, tiers: stands here twice");
+    let height = "'truss height 90 cm': there is no such field here";
+    assert_eq!(stringer("tiers 1", "tiers 1, truss height 90 cm"), format!("line 3, {height}"));
+    assert_eq!(stringer("tiers 1", "tiers 1,"), "line 3, '': there is no such field here");
+    let sawn = "section sawn, width 20 cm, height 20 cm, side rot 0 cm, top rot 0 cm, pieces 1, \
+                lost area 0 cm2";
+    let log = "section log, diameter 28 cm, rot 0 cm, tiers 1";
+    let lost = "line 3, 'lost area 0 cm2': there is no such field here";
+    assert_eq!(stringer(log, sawn), lost, "a beam in bending has no lost area");
+}
+
+#[test]
+fn errors_of_a_number() {
+    for found in ["50.0", "-1", "+5", "0x10", "five", "5OO"] {
+        let words = format!("line 3, span: '{found}' is not a whole number");
+        assert_eq!(stringer("span 500", &format!("span {found}")), words);
+    }
+    assert_eq!(stringer("span 500 cm", "span"), "line 3, span: '' is not a whole number");
+    assert_eq!(stringer("span 500 cm", "span 500"), "line 3, span: the unit is cm, not ''");
+    assert_eq!(stringer("span 500 cm", "span 5 m"), "line 3, span: the unit is cm, not 'm'");
+    assert_eq!(stringer("tiers 1", "tiers 1 cm"), "line 3, tiers: 'cm' follows a plain number");
+    assert_eq!(stringer("span 500", "span 99"), "line 3, span: 99 is outside 100 to 5000 cm");
+    let many = "99999999999999999999999";
+    let words = "line 3, span: 18446744073709551615 is outside 100 to 5000 cm";
+    assert_eq!(stringer("span 500", &format!("span {many}")), words);
+}
+
+#[test]
+fn errors_between_two_fields() {
+    let joint = |from: &str, to: &str| error(&format!("survey\n{}", JOINT.replace(from, to)));
+    assert!(read(format!("survey\n{JOINT}").as_bytes()).is_ok());
+    let words = "line 2, from support: 1200 cm is not below the span of 1200 cm";
+    assert_eq!(joint("from support 600", "from support 1200"), words);
+    let words = "line 2, joint part: 5 is above the chord whole of 4";
+    assert_eq!(joint("joint part 2", "joint part 5"), words);
+    let species = "line 2, 'species pine': there is no such field here";
+    assert_eq!(joint("steel plates,", "steel plates, species pine,"), species);
+}
+
+#[test]
+fn errors_of_an_axle() {
+    let vehicle = |from: &str, to: &str| {
+        error(&format!("vehicle, class lorry, track 190 cm\n{}", AXLES.replacen(from, to, 1)))
+    };
+    assert_eq!(vehicle("distance 0", "distance 3"), "line 2, distance: must be 0 cm, not 3");
+    assert_eq!(vehicle("370", "0"), "line 3, distance: 0 is outside 1 to 2000 cm");
+    assert_eq!(vehicle("1500", "0"), "line 2, weight: 0 is outside 1 to 60000 kgf");
+    assert_eq!(vehicle("axle", "wheel"), "line 2, axle: 'wheel' is not one of: axle");
+    assert_eq!(vehicle(", weight 1500 kgf", ""), "line 2, weight: is missing");
+}
