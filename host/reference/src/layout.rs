@@ -82,11 +82,8 @@ pub fn used(kind: u16, code: u16) -> impl Iterator<Item = &'static Limit> {
     of_kind(kind).iter().chain(of_section(kind, code))
 }
 
-/// Is this word one that must be 0?
-pub fn is_unused(kind: u16, code: u16, word: usize) -> bool {
-    match word {
-        KIND | SECTION => false,
-        SPECIES => !has_species(kind),
-        _ => used(kind, code).all(|limit| limit.0 != word),
-    }
+/// The words that may be other than 0, a bit each.
+pub fn used_words(kind: u16, code: u16) -> u16 {
+    let species = u16::from(has_species(kind)) << SPECIES;
+    used(kind, code).fold(1 << KIND | 1 << SECTION | species, |all, limit| all | 1 << limit.0)
 }

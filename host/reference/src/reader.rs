@@ -90,7 +90,8 @@ fn record_fault(w: &Words) -> Option<u64> {
     if !sections(kind).contains(&code) {
         return Some(6);
     }
-    if (0..w.len()).any(|i| is_unused(kind, code, i) && w[i] != 0) {
+    let may_differ = used_words(kind, code);
+    if (0..w.len()).any(|i| may_differ >> i & 1 == 0 && w[i] != 0) {
         return Some(8);
     }
     let outside = used(kind, code).any(|&(i, least, greatest)| !within(w[i], least, greatest));

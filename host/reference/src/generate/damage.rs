@@ -73,8 +73,8 @@ fn break_range(random: &mut Random, words: &mut Words) {
 
 /// A record with one unused field that is not 0, where it has any.
 fn fill_unused(random: &mut Random, words: &mut Words) -> bool {
-    let (kind, code) = (words[KIND], words[SECTION]);
-    let unused: Vec<usize> = (0..16).filter(|&word| is_unused(kind, code, word)).collect();
+    let used = used_words(words[KIND], words[SECTION]);
+    let unused: Vec<usize> = (0..16).filter(|word| used >> word & 1 == 0).collect();
     if unused.is_empty() {
         return false;
     }
