@@ -10,7 +10,7 @@ const PAIRS: u64 = 100_000;
 
 /// Files for the library: most are small, as brute force is dear; one in 400 is the largest there is.
 fn pair(random: &mut Random) -> (Vec<u8>, Vec<u8>) {
-    let spread = if random.once_in(2) { Spread::Wide } else { Spread::Usual };
+    let spread = if random.once_in(3) { Spread::Wide } else { Spread::Usual };
     let (members, axles) = match random.below(400) {
         0 => {
             let survey = survey_bytes(&full_survey(random, spread));
@@ -53,23 +53,22 @@ fn the_library_answers_as_the_reference() {
     }
 }
 
-/// One axle that brings exactly the permitted load passes, 1 kgf/m more does not.
+/// The heaviest vehicle that passes, and 1 kgf more on one axle: each verdict as the reference has it.
 #[test]
 fn verdicts_turn_at_the_limit() {
-    let seed = seed(0x7b2_0002);
-    let mut random = Random::new(seed);
+    let first = seed(0x7b2_0002);
     let (mut at, mut over) = (0, 0);
-    for i in 0..5000 {
-        let Some((survey, vehicle)) = at_the_limit(&mut random) else { continue };
+    for seed in first..first + 10_000 {
+        let Some((survey, vehicle)) = at_the_limit(&mut Random::new(seed)) else { continue };
         let vehicle = vehicle_bytes(&vehicle);
         let judged = reference::judge(&survey, &vehicle).expect("a sound pair");
         let rated = judged.members[0];
         at += u32::from(rated.vehicle == rated.permitted);
         over += u32::from(rated.vehicle == rated.permitted + 1);
         let answer = tbr::judge(&survey, &vehicle).expect("a sound pair");
-        assert_eq!(answer.passes, rated.vehicle <= rated.permitted, "TBR_SEED={seed}, {i}");
+        assert_eq!(answer.passes, rated.vehicle <= rated.permitted, "TBR_SEED={seed}");
     }
-    assert!(at > 200 && over > 200, "{at} at the limit, {over} just over");
+    assert!(at > 1000 && over > 1000, "{at} at the limit, {over} just over");
 }
 
 /// Each kind alone, each of its sections, every answer equal.

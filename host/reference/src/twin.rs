@@ -99,14 +99,22 @@ fn vehicle_load(m: &Member, axles: &[Axle], behind: &[usize]) -> u64 {
     (400 * forth.max(back)).div_ceil((apex * (base - apex) * base) as u64)
 }
 
+fn rate_with(member: &Member, vehicle: &Vehicle, behind: &[usize]) -> Rated {
+    Rated {
+        permitted: permitted_load(member, vehicle),
+        vehicle: vehicle_load(member, &vehicle.axles, behind),
+    }
+}
+
+/// A member's loads, fast.
+pub fn rate(member: &Member, vehicle: &Vehicle) -> Rated {
+    rate_with(member, vehicle, &offsets(&vehicle.axles))
+}
+
 /// The judgement, fast.
 pub fn judge(survey: &[u8], vehicle: &[u8]) -> Result<Judged, Refused> {
     let members = reader::survey(survey)?;
     let vehicle = reader::vehicle(vehicle)?;
     let behind = offsets(&vehicle.axles);
-    let rate = |member: &Member| Rated {
-        permitted: permitted_load(member, &vehicle),
-        vehicle: vehicle_load(member, &vehicle.axles, &behind),
-    };
-    Ok(bridge(members.iter().map(rate).collect()))
+    Ok(bridge(members.iter().map(|member| rate_with(member, &vehicle, &behind)).collect()))
 }

@@ -8,7 +8,7 @@ use crate::layout::*;
 pub enum Spread {
     /// Over the whole of every range, its edges often.
     Wide,
-    /// Little rot, loss and dead load, as on a bridge in use.
+    /// Little rot, loss and dead load and no great span, as on a bridge in use.
     Usual,
 }
 
@@ -23,12 +23,20 @@ pub(super) fn lowers(words: &Words, word: usize) -> bool {
     }
 }
 
-fn number(random: &mut Random, spread: Spread, low: bool, least: u16, greatest: u16) -> u16 {
-    match spread {
-        Spread::Wide => random.edgy(least, greatest),
-        Spread::Usual if low => random.between(least, least + (greatest - least) / 20),
-        Spread::Usual => random.between(least, greatest),
+/// The greatest span, cm, of a bridge in use: beams, then trusses.
+const USUAL_SPAN: [u16; 2] = [900, 3000];
+
+fn number(random: &mut Random, spread: Spread, words: &Words, limit: Limit) -> u16 {
+    let (word, least, greatest) = limit;
+    if spread == Spread::Wide {
+        return random.edgy(least, greatest);
     }
+    let greatest = match word {
+        SPAN => USUAL_SPAN[usize::from(words[KIND] > 2)],
+        _ if lowers(words, word) => least + (greatest - least) / 20,
+        _ => greatest,
+    };
+    random.between(least, greatest)
 }
 
 /// A member of this kind.
@@ -44,7 +52,7 @@ fn member(random: &mut Random, spread: Spread, kind: u16) -> Words {
             FROM_SUPPORT if kind != 2 => words[SPAN] - 1,
             _ => greatest,
         };
-        words[word] = number(random, spread, lowers(&words, word), least, greatest);
+        words[word] = number(random, spread, &words, (word, least, greatest));
     }
     if words[PART_A] > words[WHOLE_B] {
         words.swap(PART_A, WHOLE_B);
