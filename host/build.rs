@@ -6,53 +6,55 @@
 
 use std::env;
 use std::path::{Path, PathBuf};
-use std::process::Command;
+use std::process::{exit, Command};
 
 const LIBRARY: &str = "libjudgement.a";
 
 /// Runs `rt` in the repository's root.
-fn rt(root: &Path, words: [&str; 2]) {
-    let status = Command::new("rt").args(words).current_dir(root).status();
-    match status {
-        Ok(status) if status.success() => {}
-        Ok(status) => panic!("rt {} {} failed: {status}", words[0], words[1]),
-        Err(error) => panic!("rt cannot be run: {error}"),
+fn rt(root: &Path, command: &str, name: &str) -> Result<(), String> {
+    match Command::new("rt").args([command, name]).current_dir(root).status() {
+        Ok(status) if status.success() => Ok(()),
+        Ok(status) => Err(format!("rt {command} {name} failed: {status}")),
+        Err(error) => Err(format!("rt cannot be run: {error}")),
     }
 }
 
 /// The library made before, or made now.
-fn library(root: &Path) -> PathBuf {
-    match env::var_os("TBR_LIB_DIR") {
-        Some(folder) => PathBuf::from(folder).join(LIBRARY),
-        None => {
-            rt(root, ["staticlib", "judgement"]);
-            root.join("target/staticlib").join(LIBRARY)
-        }
+fn library(root: &Path) -> Result<PathBuf, String> {
+    if let Some(folder) = env::var_os("TBR_LIB_DIR") {
+        return Ok(PathBuf::from(folder).join(LIBRARY));
     }
+    rt(root, "staticlib", "judgement")?;
+    Ok(root.join("target/staticlib").join(LIBRARY))
 }
 
-fn main() {
-    let package = PathBuf::from(env::var_os("CARGO_MANIFEST_DIR").expect("set by cargo"));
-    let root = package.parent().expect("the package stands in the repository");
-    let out = PathBuf::from(env::var_os("OUT_DIR").expect("set by cargo"));
-
-    let library = library(root);
-    if env::var_os("TBR_BRIDGE").is_none() {
-        rt(root, ["check", "bridge"]);
-    }
-    // A copy, so that the build does not lose its library when the root's target/ is cleared.
-    if let Err(error) = std::fs::copy(&library, out.join(LIBRARY)) {
-        panic!("no library at {}: {error}", library.display());
-    }
-
-    println!("cargo:rustc-link-search=native={}", out.display());
-    println!("cargo:rustc-link-lib=static=judgement");
+fn build(root: &Path, out: &Path) -> Result<(), String> {
     println!("cargo:rerun-if-env-changed=TBR_LIB_DIR");
     println!("cargo:rerun-if-env-changed=TBR_BRIDGE");
+    for source in ["crates", "crates.txt"] {
+        println!("cargo:rerun-if-changed={}", root.join(source).display());
+    }
+    let library = library(root)?;
     if env::var_os("TBR_LIB_DIR").is_some() {
         println!("cargo:rerun-if-changed={}", library.display());
     }
-    for source in ["crates", "crates.txt"] {
-        println!("cargo:rerun-if-changed={}", root.join(source).display());
+    if env::var_os("TBR_BRIDGE").is_none() {
+        rt(root, "check", "bridge")?;
+    }
+    // A copy, so that the build does not lose its library when the root's target/ is cleared.
+    std::fs::copy(&library, out.join(LIBRARY))
+        .map_err(|error| format!("no library at {}: {error}", library.display()))?;
+    println!("cargo:rustc-link-search=native={}", out.display());
+    println!("cargo:rustc-link-lib=static=judgement");
+    Ok(())
+}
+
+fn main() {
+    let folder = |name| PathBuf::from(env::var_os(name).expect("set by cargo"));
+    let package = folder("CARGO_MANIFEST_DIR");
+    let root = package.parent().expect("the package stands in the repository");
+    if let Err(message) = build(root, &folder("OUT_DIR")) {
+        eprintln!("{message}");
+        exit(1);
     }
 }

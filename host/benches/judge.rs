@@ -2,6 +2,7 @@
 //! and how the library's time grows with members and axles. `cargo bench` runs it.
 
 use reference::generate::*;
+use reference::layout::SPAN;
 use reference::twin;
 use std::hint::black_box;
 use std::process::ExitCode;
@@ -33,15 +34,19 @@ fn micros(time: Duration) -> f64 {
     time.as_secs_f64() * 1e6
 }
 
-/// The first so many members and axles of the largest files.
+/// A survey and a vehicle.
 struct Files {
     survey: Vec<u8>,
     vehicle: Vec<u8>,
 }
 
+/// The first so many members, each of the greatest span, and the first so many axles.
 fn files(members: usize, axles: usize) -> Files {
     let mut random = Random::new(SEED);
-    let all = full_survey(&mut random, Spread::Usual);
+    let mut all = full_survey(&mut random, Spread::Usual);
+    for words in &mut all {
+        words[SPAN] = 5000;
+    }
     let mut vehicle = vehicle(&mut random, Spread::Usual, 16);
     vehicle.axles.truncate(axles);
     Files { survey: survey_bytes(&all[..members]), vehicle: vehicle_bytes(&vehicle) }

@@ -97,15 +97,23 @@ fn all_numbers_have_words_of_their_own() {
     assert_eq!(refusal.to_string(), words);
 }
 
-/// The same files judged again and again, others in between: nothing is kept from call to call.
+/// The same files judged in several threads, in another order in each: nothing is kept from call to
+/// call, and no call disturbs another.
 #[test]
 fn nothing_is_kept_between_calls() {
     let mut random = Random::new(0x5a3e);
-    let pairs: Vec<(Vec<u8>, Vec<u8>)> = (0..50).map(|_| some_damage(&mut random)).collect();
+    let pairs: Vec<(Vec<u8>, Vec<u8>)> = (0..200).map(|_| some_damage(&mut random)).collect();
     let first: Vec<_> = pairs.iter().map(|(survey, vehicle)| judge(survey, vehicle)).collect();
-    for _ in 0..20 {
-        let order = random.below(pairs.len());
-        let (survey, vehicle) = &pairs[order];
-        assert_eq!(judge(survey, vehicle), first[order]);
-    }
+    std::thread::scope(|scope| {
+        for thread in 0..4 {
+            let (pairs, first) = (&pairs, &first);
+            scope.spawn(move || {
+                let mut random = Random::new(thread);
+                for _ in 0..2000 {
+                    let at = random.below(pairs.len());
+                    assert_eq!(judge(&pairs[at].0, &pairs[at].1), first[at]);
+                }
+            });
+        }
+    });
 }

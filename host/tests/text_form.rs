@@ -106,28 +106,18 @@ fn the_limits_of_every_field_of_every_kind_and_section() {
         let Value::Word(codes) = chosen.value else { panic!("{}", chosen.name) };
         for (_, code) in codes {
             let section = SECTIONS.iter().find(|section| section.code == *code).unwrap();
+            // Within all limits, and so that each field can go to its own limits: x and A are
+            // small, l and B are great.
             let mut words = [1; 16];
-            // Within all limits, and so that the other of two bound fields can go to its own.
-            [words[0], words[2], words[7]] = [kind.code, 5000, section.code];
-            [words[3], words[5], words[15]] = [10, 10, 1000];
-            [words[4], words[8]] = [10, if *code == 1 { 13 } else { 1 }];
-            let line = write(&Contents::Survey(vec![words]));
-            let line = line.lines().nth(1).unwrap();
+            [words[0], words[7]] = [kind.code, section.code];
+            [words[2], words[3], words[4], words[5]] = [5000, 10, 10, 10];
+            [words[8], words[15]] = [if *code == 1 { 13 } else { 1 }, 1000];
+            let text = write(&Contents::Survey(vec![words]));
+            let line = text.lines().nth(1).unwrap();
             let fields = kind.fields.iter().chain(section.fields_in(kind));
-            // The span and the chord's whole are held on their own: they bind other fields.
-            let fields: Vec<&Field> = fields.filter(|f| f.word != 2 && f.word != 15).collect();
-            hold_limits("survey\n", line, &fields);
-            let low = with_number(line, &kind.fields[fields_before_span(kind.fields)], 100);
-            let span: Vec<&Field> = kind.fields.iter().filter(|f| f.word == 2).collect();
-            hold_limits("survey\n", &low, &span);
-            let whole: Vec<&Field> = kind.fields.iter().filter(|f| f.word == 15).collect();
-            hold_limits("survey\n", line, &whole);
+            hold_limits("survey\n", line, &fields.collect::<Vec<_>>());
         }
     }
-}
-
-fn fields_before_span(fields: &[Field]) -> usize {
-    fields.iter().position(|field| field.word == 2).unwrap()
 }
 
 #[test]
@@ -229,7 +219,7 @@ fn errors_of_a_number() {
     assert_eq!(stringer("tiers 1", "tiers 1 cm"), "line 3, tiers: 'cm' follows a plain number");
     assert_eq!(stringer("span 500", "span 99"), "line 3, span: 99 is outside 100 to 5000 cm");
     let many = "99999999999999999999999";
-    let words = "line 3, span: 18446744073709551615 is outside 100 to 5000 cm";
+    let words = format!("line 3, span: {many} is outside 100 to 5000 cm");
     assert_eq!(stringer("span 500", &format!("span {many}")), words);
 }
 

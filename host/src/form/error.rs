@@ -34,7 +34,7 @@ pub enum Problem {
     /// The unit is another one, or none.
     Unit { found: String, unit: &'static str },
     /// The number is outside its limits.
-    Outside { found: u64, least: u16, greatest: u16, unit: &'static str },
+    Outside { found: String, least: u16, greatest: u16, unit: &'static str },
     /// The point is not within the span.
     NotBelowSpan { found: u16, span: u16 },
     /// A is above B.

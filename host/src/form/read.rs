@@ -46,11 +46,12 @@ fn number(line: &Line, field: &Field, text: &str, limits: (u16, u16, &'static st
         let found = found_unit.trim().to_string();
         return line.fault(field.name, Problem::Unit { found, unit });
     }
-    // A number too long for 64 bits is outside every range.
-    let found = digits.parse().unwrap_or(u64::MAX);
-    match u16::try_from(found) {
+    match digits.parse() {
         Ok(value) if (least..=greatest).contains(&value) => Ok(value),
-        _ => line.fault(field.name, Problem::Outside { found, least, greatest, unit }),
+        _ => {
+            let found = digits.to_string();
+            line.fault(field.name, Problem::Outside { found, least, greatest, unit })
+        }
     }
 }
 
