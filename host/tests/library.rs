@@ -87,3 +87,32 @@ fn each_kind_and_section_alone() {
     }
     assert!(seen.len() == 8 && seen.values().all(|&times| times > 100), "{seen:?}");
 }
+
+/// All used numbers at the edges of their ranges, in every choice of edges: the largest products
+/// and the smallest divisors are among them.
+#[test]
+fn numbers_at_the_edges() {
+    let seed = seed(0x7b2_0004);
+    let mut random = Random::new(seed);
+    for words in corners() {
+        let mut lorry = vehicle(&mut random, Spread::Wide, 2);
+        lorry.track = *random.pick(&[100, 300]);
+        let (survey, vehicle) = (survey_bytes(&[words]), vehicle_bytes(&lorry));
+        let answer = library(&survey, &vehicle);
+        assert_eq!(answer, expected(&survey, &vehicle), "TBR_SEED={seed}, {words:?}");
+    }
+}
+
+/// One damage in each way at each place of the largest files.
+#[test]
+fn refusals_at_every_place() {
+    let first = seed(0x7b2_0005);
+    for seed in first..first + 20 {
+        let mut random = Random::new(seed);
+        for all in [damaged_surveys(&mut random), damaged_vehicles(&mut random)] {
+            for Damaged { survey, vehicle, refusal } in all {
+                assert_eq!(library(&survey, &vehicle), Err(refusal), "TBR_SEED={seed}");
+            }
+        }
+    }
+}

@@ -10,43 +10,33 @@ fn refused(survey: &[u8], vehicle: &[u8]) -> Option<Refused> {
 }
 
 #[test]
-fn each_damage_of_a_record_has_its_number_and_place() {
+fn each_damage_has_its_number_and_place() {
     let mut random = Random::new(SEED);
-    let vehicle = vehicle_bytes(&vehicle(&mut random, Spread::Wide, 16));
-    let mut tried = [0; 5];
-    for round in 0..40 {
-        let members = full_survey(&mut random, Spread::Wide);
-        for place in 0..64 {
-            let way = (round + place) % 5;
-            let damage = SurveyDamage::ALL[way];
-            let mut damaged = members.clone();
-            if !damage_survey(&mut random, &mut damaged[place], damage) {
-                continue;
+    for round in 0..10 {
+        for all in [damaged_surveys(&mut random), damaged_vehicles(&mut random)] {
+            for Damaged { survey, vehicle, refusal } in all {
+                let answer = refused(&survey, &vehicle);
+                assert_eq!(answer, Some(refusal), "seed {SEED:#x}, round {round}");
             }
-            tried[way] += 1;
-            let (number, place) = (damage.number(), place as u64 + 1);
-            let expected = Refused { file: File::Survey, number, place };
-            let answer = refused(&survey_bytes(&damaged), &vehicle);
-            assert_eq!(answer, Some(expected), "seed {SEED:#x}, {damage:?}");
         }
     }
-    assert!(tried.iter().all(|&times| times > 200), "{tried:?}");
 }
 
+/// Every number at every place: a kind 6 has no species, and some sections use all their fields.
 #[test]
-fn each_damage_of_a_vehicle_has_its_place() {
-    let mut random = Random::new(SEED);
-    let survey = survey_bytes(&full_survey(&mut random, Spread::Wide));
-    for _ in 0..50 {
-        let sound = vehicle(&mut random, Spread::Wide, 16);
-        let axles = (0..16).flat_map(|i| [VehicleDamage::Weight(i), VehicleDamage::Distance(i)]);
-        for damage in axles.chain([VehicleDamage::Class, VehicleDamage::Track]) {
-            let mut damaged = sound.clone();
-            let place = damage_vehicle(&mut random, &mut damaged, damage);
-            let expected = Refused { file: File::Vehicle, number: 7, place };
-            let answer = refused(&survey, &vehicle_bytes(&damaged));
-            assert_eq!(answer, Some(expected), "seed {SEED:#x}, {damage:?}");
-        }
+fn all_numbers_are_tried_at_all_places() {
+    let surveys = damaged_surveys(&mut Random::new(SEED));
+    let tried = |number, place| {
+        surveys.iter().any(|d| d.refusal.number == number && d.refusal.place == place)
+    };
+    for place in 1..=64 {
+        assert!(tried(4, place) && tried(6, place) && tried(7, place), "place {place}");
+        assert_eq!(tried(5, place), place % 6 != 0, "place {place} is of kind 6 or not");
+        assert_eq!(tried(8, place), place % 6 != 4, "place {place} is of kind 4 or not");
+    }
+    let vehicles = damaged_vehicles(&mut Random::new(SEED));
+    for place in 0..=16 {
+        assert_eq!(vehicles.iter().filter(|d| d.refusal.place == place).count(), 2);
     }
 }
 

@@ -28,3 +28,15 @@ fn the_twin_refuses_alike() {
         assert_eq!(fast, slow, "seed {SEED:#x}, round {round}");
     }
 }
+
+#[test]
+fn the_twin_agrees_at_the_edges() {
+    const SEED: u64 = 0x7719;
+    let mut random = Random::new(SEED);
+    for words in corners() {
+        let survey = survey_bytes(&[words]);
+        let vehicle = vehicle_bytes(&vehicle(&mut random, Spread::Wide, 2));
+        let (fast, slow) = (twin::judge(&survey, &vehicle), judge(&survey, &vehicle));
+        assert_eq!(fast, slow, "seed {SEED:#x}, {words:?}");
+    }
+}

@@ -148,7 +148,8 @@ pub fn some_damage(random: &mut Random) -> (Vec<u8>, Vec<u8>) {
     }
     if random.once_in(2) {
         let axle = random.below(axles);
-        let all = [VehicleDamage::Class, VehicleDamage::Track, VehicleDamage::Weight(axle)];
+        use VehicleDamage::{Class, Distance, Track, Weight};
+        let all = [Class, Track, Weight(axle), Distance(axle)];
         let damage = *random.pick(&all);
         damage_vehicle(random, &mut words, damage);
     }
