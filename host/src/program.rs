@@ -1,5 +1,6 @@
 //! The members' loads, from the proved program `bridge`.
 
+use crate::file;
 use crate::judge::Judgement;
 use std::fmt;
 use std::io::{ErrorKind, Write};
@@ -114,28 +115,60 @@ fn bridge_line(line: &str) -> Option<Judgement> {
     })
 }
 
-/// The members' lines, where the last line is this judgement.
-fn members(printed: &str, judgement: &Judgement) -> Option<Vec<MemberLoads>> {
+/// The lines of so many members, where the last line is this judgement.
+fn members(printed: &str, count: usize, judgement: &Judgement) -> Option<Vec<MemberLoads>> {
     let lines: Vec<&str> = printed.lines().collect();
     let (last, lines) = lines.split_last()?;
     let members: Vec<MemberLoads> =
         lines.iter().map(|line| member_line(line)).collect::<Option<_>>()?;
-    let in_order = members.iter().zip(1..).all(|(member, place)| member.place == place);
+    let in_order = members.iter().map(|member| member.place).eq(1..=count as u64);
     (in_order && bridge_line(last).as_ref() == Some(judgement)).then_some(members)
 }
 
 /// The loads of every member of two files that the library took and judged so.
 ///
 /// # Errors
-/// The program is missing or fails, or its last line is another judgement.
+/// The program is missing or fails, or its lines are not of this judgement.
 pub fn member_loads(
     survey: &[u8],
     vehicle: &[u8],
     judgement: &Judgement,
 ) -> Result<Vec<MemberLoads>, ProgramError> {
     let printed = printed(&[survey, vehicle].concat())?;
-    match members(&printed, judgement) {
+    match members(&printed, file::members(survey).len(), judgement) {
         Some(members) => Ok(members),
         None => Err(ProgramError::Unexpected(printed)),
+    }
+}
+
+#[cfg(test)]
+mod tests {
+    use super::*;
+
+    const PASS: Judgement = Judgement { figure: 1720, governing: 1, passes: true };
+
+    #[test]
+    fn the_lines_of_the_judgement_are_taken() {
+        let loads = MemberLoads { place: 1, permitted: 1720, vehicle: 1200, passes: true };
+        let printed = "1 1720 1200 pass\nbridge 1720 1 pass\n";
+        assert_eq!(members(printed, 1, &PASS), Some(vec![loads]));
+    }
+
+    #[test]
+    fn other_lines_are_not() {
+        for printed in [
+            "",
+            "bridge 1720 1 pass\n",
+            "refused 7 at 1\n",
+            "1 1720 1200 pass\nbridge 1720 1 refuse\n",
+            "1 1720 1200 pass\nbridge 1719 1 pass\n",
+            "2 1720 1200 pass\nbridge 1720 1 pass\n",
+            "1 1720 1200 maybe\nbridge 1720 1 pass\n",
+            "1 1720 1200\nbridge 1720 1 pass\n",
+            "1 1720 1200 pass\n2 1800 1200 pass\nbridge 1720 1 pass\n",
+            "1 1720 1200 pass\nbridge 1720 1 pass\nbridge 1720 1 pass\n",
+        ] {
+            assert_eq!(members(printed, 1, &PASS), None, "{printed}");
+        }
     }
 }

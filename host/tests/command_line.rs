@@ -32,9 +32,17 @@ impl Drop for Folder {
     }
 }
 
+fn samples() -> PathBuf {
+    Path::new(env!("CARGO_MANIFEST_DIR")).join("../samples")
+}
+
+fn sample(name: &str) -> Vec<u8> {
+    std::fs::read(samples().join(name)).unwrap()
+}
+
 fn tbr(words: &[&str]) -> Command {
     let mut command = Command::new(env!("CARGO_BIN_EXE_tbr"));
-    command.args(words).current_dir(Path::new(env!("CARGO_MANIFEST_DIR")).join("../samples"));
+    command.args(words).current_dir(samples());
     command
 }
 
@@ -84,10 +92,8 @@ fn all_kinds_by_name() {
 #[test]
 fn a_member_that_bears_nothing_has_no_share() {
     let folder = Folder::new("nothing");
-    let text = std::fs::read_to_string(
-        Path::new(env!("CARGO_MANIFEST_DIR")).join("../samples/case-a.txt"),
-    );
-    let rotten = folder.file("rotten.txt", text.unwrap().replace("rot 0", "rot 8").as_bytes());
+    let text = String::from_utf8(sample("case-a.txt")).unwrap();
+    let rotten = folder.file("rotten.txt", text.replace("rot 0", "rot 8").as_bytes());
     let survey = folder.path("rotten.tbr");
     assert_eq!(run(&["make", &rotten, &survey]).0, 0);
     let (status, table, _) = run(&["judge", &survey, "case-l.tbv"]);
@@ -100,9 +106,6 @@ fn a_member_that_bears_nothing_has_no_share() {
 #[test]
 fn refused_files_are_explained() {
     let folder = Folder::new("refused");
-    let sample = |name: &str| {
-        std::fs::read(Path::new(env!("CARGO_MANIFEST_DIR")).join("../samples").join(name)).unwrap()
-    };
     let mut survey = sample("forest-road.tbr");
     survey[6 + 2 * 32] = 9;
     let survey = folder.file("kind.tbr", &survey);
@@ -154,8 +157,7 @@ fn make_goes_there_and_back() {
     assert_eq!(run(&["make", "--back", "forest-road.tbr", &text]).0, 0);
     let (status, said, _) = run(&["make", &text, &file]);
     assert_eq!((status, said), (0, format!("{file}: survey of 7 members\n")));
-    let original = Path::new(env!("CARGO_MANIFEST_DIR")).join("../samples/forest-road.tbr");
-    assert_eq!(std::fs::read(&file).unwrap(), std::fs::read(original).unwrap());
+    assert_eq!(std::fs::read(&file).unwrap(), sample("forest-road.tbr"));
     let (_, printed, _) = run(&["make", "--back", "forest-road.tbr"]);
     assert_eq!(printed, std::fs::read_to_string(&text).unwrap());
 }

@@ -8,7 +8,7 @@ use std::collections::BTreeMap;
 
 const PAIRS: u64 = 100_000;
 
-/// Files for the library: most are small, as brute force is dear; one in 400 is the largest there is.
+/// Files for the library: most are small, as brute force is dear; one in 400 is of the largest.
 fn pair(random: &mut Random) -> (Vec<u8>, Vec<u8>) {
     let spread = if random.once_in(3) { Spread::Wide } else { Spread::Usual };
     let (members, axles) = match random.below(400) {
@@ -53,7 +53,7 @@ fn the_library_answers_as_the_reference() {
     }
 }
 
-/// The heaviest vehicle that passes, and 1 kgf more on one axle: each verdict as the reference has it.
+/// The heaviest vehicle that passes, and 1 kgf more on one axle: verdicts as the reference has them.
 #[test]
 fn verdicts_turn_at_the_limit() {
     let first = seed(0x7b2_0002);

@@ -84,8 +84,8 @@ fn hold_limits(before: &str, line: &str, fields: &[&Field]) {
     let text = |field: &Field, number| format!("{before}{}\n", with_number(line, field, number));
     let line_number = before.lines().count() + 1;
     for field in fields {
-        let Value::Number { least, greatest, .. } = field.value else { continue };
-        let (least, greatest) = (u64::from(least), u64::from(greatest));
+        let Value::Number(limits) = field.value else { continue };
+        let (least, greatest) = (u64::from(limits.least), u64::from(limits.greatest));
         for number in [least, greatest] {
             let contents = read(text(field, number).as_bytes());
             let contents = contents.unwrap_or_else(|e| panic!("{e}: {}", text(field, number)));

@@ -1,5 +1,6 @@
 //! What is wrong with a text form, by line and field.
 
+use super::field::Limits;
 use std::fmt;
 
 /// A fault of the text: its line, from 1, the field, and what is wrong with it.
@@ -34,7 +35,7 @@ pub enum Problem {
     /// The unit is another one, or none.
     Unit { found: String, unit: &'static str },
     /// The number is outside its limits.
-    Outside { found: String, least: u16, greatest: u16, unit: &'static str },
+    Outside { found: String, limits: Limits },
     /// The point is not within the span.
     NotBelowSpan { found: u16, span: u16 },
     /// A is above B.
@@ -63,10 +64,10 @@ impl fmt::Display for Problem {
             Problem::NotWhole { found } => write!(f, "'{found}' is not a whole number"),
             Problem::Unit { found, unit: "" } => write!(f, "'{found}' follows a plain number"),
             Problem::Unit { found, unit } => write!(f, "the unit is {unit}, not '{found}'"),
-            Problem::Outside { found, least, greatest, unit } if least == greatest => {
-                write!(f, "must be {least} {unit}, not {found}")
-            }
-            Problem::Outside { found, least, greatest, unit } => {
+            Problem::Outside { found, limits: Limits { least, greatest, unit } } => {
+                if least == greatest {
+                    return write!(f, "must be {least} {unit}, not {found}");
+                }
                 write!(f, "{found} is outside {least} to {greatest} {unit}")
             }
             Problem::NotBelowSpan { found, span } => {

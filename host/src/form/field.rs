@@ -12,11 +12,19 @@ pub struct Field {
 
 /// What a field may be.
 pub enum Value {
-    /// A whole number within limits, with its unit; a plain count has none.
-    Number { unit: &'static str, least: u16, greatest: u16 },
+    /// A whole number.
+    Number(Limits),
     /// One of these words, each with its number in the file. Of two words with one number the
     /// first is written.
     Word(&'static [(&'static str, u16)]),
+}
+
+/// A number's least and greatest value and its unit; a plain count has none.
+#[derive(Clone, Copy, Debug, PartialEq, Eq)]
+pub struct Limits {
+    pub least: u16,
+    pub greatest: u16,
+    pub unit: &'static str,
 }
 
 /// A number field.
@@ -27,7 +35,7 @@ pub const fn number(
     greatest: u16,
     unit: &'static str,
 ) -> Field {
-    Field { name, word, value: Value::Number { unit, least, greatest } }
+    Field { name, word, value: Value::Number(Limits { least, greatest, unit }) }
 }
 
 /// A field of words.

@@ -16,12 +16,13 @@
 
 mod error;
 mod field;
+mod line;
 mod read;
 mod tables;
 mod write;
 
 pub use error::{Problem, TextError};
-pub use field::{Field, Value};
+pub use field::{Field, Limits, Value};
 pub use read::read;
 pub use tables::{Kind, Section, AXLE, FIRST_AXLE, HEADING, KINDS, SECTIONS};
 pub use write::{clause, kind_of, section_of, write};

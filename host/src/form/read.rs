@@ -1,100 +1,10 @@
 //! Text form to the words of a file.
 
 use super::error::{Problem, TextError};
-use super::field::{Field, Value};
+use super::field::Field;
+use super::line::Line;
 use super::tables::*;
 use crate::file::{Axle, Contents, Member, Vehicle};
-
-/// A line with something in it: its number, its first words, and its other clauses.
-struct Line<'a> {
-    number: usize,
-    head: &'a str,
-    clauses: Vec<&'a str>,
-}
-
-impl<'a> Line<'a> {
-    fn fault<T>(&self, field: &str, problem: Problem) -> Result<T, TextError> {
-        Err(TextError { line: self.number, field: field.to_string(), problem })
-    }
-
-    fn cut(number: usize, text: &'a str) -> Option<Line<'a>> {
-        let text = text.split('#').next().unwrap_or("").trim();
-        let mut clauses = text.split(',').map(str::trim);
-        let head = clauses.next().filter(|_| !text.is_empty())?;
-        Some(Line { number, head, clauses: clauses.collect() })
-    }
-}
-
-/// What follows the field's name in a clause.
-fn after_name<'a>(clause: &'a str, field: &Field) -> Option<&'a str> {
-    let rest = clause.strip_prefix(field.name)?;
-    if rest.is_empty() || rest.starts_with(char::is_whitespace) {
-        return Some(rest.trim());
-    }
-    None
-}
-
-/// A whole number within the limits, and its unit.
-fn number(line: &Line, field: &Field, text: &str, limits: (u16, u16, &'static str)) -> ReadWord {
-    let (least, greatest, unit) = limits;
-    let (digits, found_unit) = text.split_once(char::is_whitespace).unwrap_or((text, ""));
-    let whole = !digits.is_empty() && digits.bytes().all(|byte| byte.is_ascii_digit());
-    if !whole {
-        return line.fault(field.name, Problem::NotWhole { found: digits.to_string() });
-    }
-    if found_unit.trim() != unit {
-        let found = found_unit.trim().to_string();
-        return line.fault(field.name, Problem::Unit { found, unit });
-    }
-    match digits.parse() {
-        Ok(value) if (least..=greatest).contains(&value) => Ok(value),
-        _ => {
-            let found = digits.to_string();
-            line.fault(field.name, Problem::Outside { found, least, greatest, unit })
-        }
-    }
-}
-
-type ReadWord = Result<u16, TextError>;
-
-/// The value that a clause gives its field.
-fn value(line: &Line, field: &Field, text: &str) -> ReadWord {
-    match field.value {
-        Value::Number { unit, least, greatest } => {
-            number(line, field, text, (least, greatest, unit))
-        }
-        Value::Word(all) => match all.iter().find(|(word, _)| *word == text) {
-            Some(&(_, number)) => Ok(number),
-            None => {
-                let allowed = all.iter().map(|(word, _)| *word).collect();
-                line.fault(field.name, Problem::NotOneOf { found: text.to_string(), allowed })
-            }
-        },
-    }
-}
-
-/// The one value of a field in a line.
-fn the_value(line: &Line, field: &Field) -> ReadWord {
-    let mut found = line.clauses.iter().filter_map(|clause| after_name(clause, field));
-    match (found.next(), found.next()) {
-        (None, _) => line.fault(field.name, Problem::Missing),
-        (Some(text), None) => value(line, field, text),
-        (Some(_), Some(_)) => line.fault(field.name, Problem::Twice),
-    }
-}
-
-/// Every clause is of one of the fields, every field has one clause; the values go to their words.
-fn fill(line: &Line, fields: &[&Field], words: &mut [u16]) -> Result<(), TextError> {
-    for clause in &line.clauses {
-        if !fields.iter().any(|field| after_name(clause, field).is_some()) {
-            return line.fault(&format!("'{clause}'"), Problem::UnknownField);
-        }
-    }
-    for field in fields {
-        words[field.word] = the_value(line, field)?;
-    }
-    Ok(())
-}
 
 /// What holds between two fields: the point is within the span, A is at most B.
 fn fits_together(line: &Line, kind: &Kind, words: &Member) -> Result<(), TextError> {
@@ -119,10 +29,10 @@ fn member(line: &Line) -> Result<Member, TextError> {
     let mut fields: Vec<&Field> = kind.fields.iter().collect();
     // The section says which other fields the line has.
     let chosen = fields.iter().find(|field| field.word == SECTION_WORD);
-    let code = the_value(line, chosen.expect("every kind has a section"))?;
+    let code = line.value(chosen.expect("every kind has a section"))?;
     let section = SECTIONS.iter().find(|section| section.code == code);
     fields.extend(section.expect("every code has its section").fields_in(kind));
-    fill(line, &fields, &mut words)?;
+    line.fill(&fields, &mut words)?;
     fits_together(line, kind, &words)?;
     Ok(words)
 }
@@ -133,7 +43,7 @@ fn axle(line: &Line, fields: &[Field; 2]) -> Result<Axle, TextError> {
         return line.fault("axle", Problem::NotOneOf { found, allowed: vec!["axle"] });
     }
     let mut words: Axle = [0; 2];
-    fill(line, &fields.each_ref(), &mut words)?;
+    line.fill(&fields.each_ref(), &mut words)?;
     Ok(words)
 }
 
@@ -176,12 +86,12 @@ pub fn read(bytes: &[u8]) -> Result<Contents, TextError> {
     };
     match heading.head {
         "survey" => {
-            fill(heading, &[], &mut [])?;
+            heading.fill(&[], &mut [])?;
             Ok(Contents::Survey(records(heading, rest, ("member", MOST_MEMBERS), member)?))
         }
         "vehicle" => {
             let mut words = [0; 2];
-            fill(heading, &HEADING.each_ref(), &mut words)?;
+            heading.fill(&HEADING.each_ref(), &mut words)?;
             let mut fields = &FIRST_AXLE;
             let axles = records(heading, rest, ("axle", MOST_AXLES), |line| {
                 axle(line, std::mem::replace(&mut fields, &AXLE))

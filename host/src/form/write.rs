@@ -8,7 +8,9 @@ use crate::file::{Contents, Member, Vehicle};
 pub fn clause(field: &Field, words: &[u16]) -> String {
     let found = words[field.word];
     match field.value {
-        Value::Number { unit, .. } => format!("{} {found} {unit}", field.name).trim().to_string(),
+        Value::Number(limits) => {
+            format!("{} {found} {}", field.name, limits.unit).trim_end().to_string()
+        }
         Value::Word(all) => {
             let word = all.iter().find(|(_, number)| *number == found);
             format!("{} {}", field.name, word.map_or("unknown", |(word, _)| word))

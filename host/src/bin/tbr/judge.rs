@@ -43,7 +43,8 @@ fn table(members: &[MemberLoads], kinds: &[&str], judgement: &Judgement) -> Stri
         );
     }
     let Judgement { figure, governing, passes } = judgement;
-    let kind = usize::try_from(governing - 1).ok().and_then(|i| kinds.get(i)).unwrap_or(&"");
+    let kind = members.iter().zip(kinds).find(|(loads, _)| loads.place == *governing);
+    let kind = kind.map_or("", |(_, kind)| kind);
     let _ = writeln!(text, "\nfigure     {figure} kgf/m");
     let _ = writeln!(text, "governing  member {governing}, {kind}");
     let _ = writeln!(text, "verdict    {}", verdict(*passes));

@@ -16,8 +16,7 @@ pub fn contents(path: &str, bytes: &[u8]) -> Result<Contents, End> {
         check_vehicle(bytes).map_err(refused)?;
         return Ok(Contents::Vehicle(file::vehicle(bytes)));
     }
-    let message = "neither a survey (TBR) nor a vehicle (TBV): refused, number 2";
-    Err(End::RefusedFile(format!("{path}: {message}")))
+    Err(End::RefusedFile(format!("{path}: neither a survey (TBR) nor a vehicle (TBV)")))
 }
 
 fn write(path: &str, bytes: &[u8]) -> Result<(), End> {
