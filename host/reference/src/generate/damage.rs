@@ -108,7 +108,7 @@ pub fn damage_survey(random: &mut Random, words: &mut Words, damage: SurveyDamag
 /// Damages a sound vehicle; the place of the fault comes back.
 pub fn damage_vehicle(random: &mut Random, words: &mut VehicleWords, damage: VehicleDamage) -> u64 {
     match damage {
-        VehicleDamage::Class => words.class = random.between(2, 255) as u8,
+        VehicleDamage::Class => words.class = random.edgy(2, 255) as u8,
         VehicleDamage::Track => words.track = outside(random, 100, 300),
         VehicleDamage::Weight(i) => words.axles[i][0] = outside(random, 1, 60000),
         VehicleDamage::Distance(0) => words.axles[0][1] = outside(random, 0, 0),
