@@ -1,0 +1,40 @@
+-- What the code computes: whole numbers, every height multiplied by P × (U - P). Nothing here has to be believed:
+-- proofs/Greatest.antt ties it to Influence.
+use Prim.Native.Nat.{ℕ, zero, suc, _+_, _-_, _*_, _≤_, _<_, max}
+use mathlib.Core.Bool.{Bool, true, false}
+use mathlib.Core.List.{List}
+use lib.ListN.{getD}
+use lib.Dec.{leb}
+use Rattle.influence.specs.Influence.{total}
+
+-- the greatest of f 0, .., f (n - 1), 0 where n is 0
+unfoldable pub top : (ℕ → ℕ) → ℕ → ℕ
+top f zero = 0
+top f (suc n) = max (top f n) (f n)
+
+abbrev pub pick : Bool → ℕ → ℕ → ℕ
+pick true a b = a
+pick false a b = b
+
+unfoldable pub scaledHeight : (U P s : ℕ) → ℕ
+scaledHeight U P s = pick (leb s P) (s * (U - P)) ((U - s) * P)
+
+unfoldable pub scaledSum : (U P : ℕ) (w b : ℕ → ℕ) (n u : ℕ) → ℕ
+scaledSum U P w b n u = total (λ i. w i * scaledHeight U P (u - b i)) n
+
+-- the greatest over the positions that put an axle over the apex
+unfoldable pub apexTop : (U P : ℕ) (w b : ℕ → ℕ) (n : ℕ) → ℕ
+apexTop U P w b n = top (λ j. scaledSum U P w b n (P + b j)) n
+
+unfoldable pub scaledGreatest : (U P : ℕ) (w b : ℕ → ℕ) (n : ℕ) → ℕ
+scaledGreatest U P w b n = max (apexTop U P w b n) (apexTop U (U - P) w b n)
+
+-- what the code's 64 bits can hold: every base and vehicle that the files allow, and axles of up to 200 tonnes
+pub record Bounded (U P n : ℕ) (ws ds : List ℕ) : Type 0 where
+  pub after-start : 0 < P
+  pub before-end : P < U
+  pub base : U ≤ 10000
+  pub some-axle : 1 ≤ n
+  pub axles : n ≤ 16
+  pub weight : (i : ℕ) → i < n → getD ws i 0 ≤ 200000
+  pub distance : (i : ℕ) → i < n → getD ds i 0 ≤ 2000
