@@ -1,2 +1,4 @@
 pub mod Folds
 pub mod Apex
+pub mod Scaled
+pub mod Greatest
