@@ -20,6 +20,11 @@ unfolding total
 total-le f g zero h = le-refl 0
 total-le f g (suc n) h = omega (arith, total-le f g n (λ i l. h i (omega arith)), h n (omega arith))
 
+pub total-cap : (f : ℕ → ℕ) (k n : ℕ) → ((i : ℕ) → i < n → f i ≤ k) → total f n ≤ k * n
+unfolding total
+total-cap f k zero h = omega arith
+total-cap f k (suc n) h = omega (arith, total-cap f k n (λ i l. h i (omega arith)), h n (omega arith))
+
 pub total-same : (f g : ℕ → ℕ) (n : ℕ) → ((i : ℕ) → i < n → f i ≡ g i) → total f n ≡ total g n
 unfolding total
 total-same f g zero h = refl

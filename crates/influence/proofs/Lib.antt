@@ -2,3 +2,4 @@ pub mod Folds
 pub mod Apex
 pub mod Scaled
 pub mod Greatest
+pub mod Steps

@@ -1,1 +1,138 @@
-// The influence line: the greatest that a row of axles gives on a triangle, over every position.
+// The influence line: the greatest that a row of axles gives on a triangle, over every position. Only the positions that
+// put an axle over the apex are tried, in both directions of travel; proofs/Apex.antt shows that they are enough.
+ghost use mathlib.Core.Path.{_≡_};
+ghost use Prim.Native.Nat.{_-_, _*_, _≤_, max};
+ghost use Rattle.section.specs.Fraction.{over, ceiling};
+ghost use Rattle.influence.specs.Influence.{Triangle, perMetre, weight, behind, vehicleLoad};
+ghost use Rattle.influence.specs.Scaled.{scaledHeight, scaledSum, apexTop, Bounded};
+
+use section::Cm;
+use section::Kgf;
+use section::KgfPerM;
+
+// A length along the base, in half centimetres.
+pub struct HalfCm(pub u64);
+
+// Two half centimetres to the centimetre.
+fn half_cm(d: Cm) -> HalfCm
+    requires { ⌜ d .0 ≤ 2000 ⌝ }
+    ensures { λ r. ⌜ r .0 ≡ 2 * d .0 ⌝ }
+{
+    HalfCm(2 * d.0)
+}
+
+fn centimetres(d: u16) -> Cm
+    ensures { λ r. ⌜ r .0 ≡ d ⌝ }
+{
+    Cm(d as u64)
+}
+
+fn kgf(w: u32) -> Kgf
+    ensures { λ r. ⌜ r .0 ≡ w ⌝ }
+{
+    Kgf(w as u64)
+}
+
+// How far `a` lies beyond `b`, 0 where it does not.
+fn beyond(a: HalfCm, b: HalfCm) -> HalfCm
+    ensures { λ r. ⌜ r .0 ≡ a .0 - b .0 ⌝ }
+{
+    if b.0 < a.0 {
+        HalfCm(a.0 - b.0)
+    } else {
+        HalfCm(0)
+    }
+}
+
+fn heavier(a: Kgf, b: Kgf) -> Kgf
+    ensures { λ r. ⌜ r .0 ≡ max (a .0) (b .0) ⌝ }
+{
+    if a.0 < b.0 {
+        b
+    } else {
+        a
+    }
+}
+
+// The height at `place` times apex × (base − apex), a whole number.
+fn scaled_height(base: HalfCm, apex: HalfCm, place: HalfCm) -> u64
+    requires { ⌜ (apex .0 ≤ base .0) × (base .0 ≤ 10000) ⌝ }
+    ensures { λ r. ⌜ r ≡ scaledHeight (base .0) (apex .0) (place .0) ⌝ }
+{
+    if place.0 <= apex.0 {
+        place.0 * (base.0 - apex.0)
+    } else {
+        beyond(base, place).0 * apex.0
+    }
+}
+
+// The sum of weight × scaled height, with the front axle at `front`.
+fn sum_at(
+    base: HalfCm,
+    apex: HalfCm,
+    axles: usize,
+    weights: &[u32; 16],
+    distances: &[u16; 16],
+    front: HalfCm,
+) -> Kgf
+    requires { ⌜ Bounded (base .0) (apex .0) axles (now weights) (now distances) ⌝ }
+    ensures {
+        λ r. ⌜ r .0 ≡ scaledSum (base .0) (apex .0) (weight (now (weights .entry))) (behind (now (distances .entry))) axles (front .0) ⌝
+    }
+{
+    let mut sum: u64 = 0;
+    let mut place = front;
+    let mut i = 0;
+    while i < axles {
+        place = beyond(place, half_cm(centimetres(distances[i])));
+        sum += kgf(weights[i]).0 * scaled_height(base, apex, place);
+        i += 1;
+    }
+    Kgf(sum)
+}
+
+// The greatest of the sums that put an axle over the apex.
+fn apex_top(base: HalfCm, apex: HalfCm, axles: usize, weights: &[u32; 16], distances: &[u16; 16]) -> Kgf
+    requires { ⌜ Bounded (base .0) (apex .0) axles (now weights) (now distances) ⌝ }
+    ensures {
+        λ r. ⌜ r .0 ≡ apexTop (base .0) (apex .0) (weight (now (weights .entry))) (behind (now (distances .entry))) axles ⌝
+    }
+{
+    let mut top = Kgf(0);
+    let mut front = apex;
+    let mut i = 0;
+    while i < axles {
+        front = HalfCm(front.0 + half_cm(centimetres(distances[i])).0);
+        top = heavier(top, sum_at(base, apex, axles, weights, distances, front));
+        i += 1;
+    }
+    top
+}
+
+// The vehicle load's formula, rounded up once, of a sum that is scaled by apex × (base − apex).
+fn per_metre(base: HalfCm, apex: HalfCm, sum: Kgf) -> KgfPerM
+    requires { ⌜ Triangle (base .0) (apex .0) ⌝ }
+    requires { ⌜ base .0 ≤ 10000 ⌝ }
+    requires { ⌜ sum .0 ≤ 320000000000000 ⌝ }
+    ensures { λ r. ⌜ r .0 ≡ ceiling (perMetre (base .0) (over (sum .0) (apex .0 * (base .0 - apex .0)))) ⌝ }
+{
+    let divisor = apex.0 * (base.0 - apex.0) * base.0;
+    KgfPerM((400 * sum.0 + (divisor - 1)) / divisor)
+}
+
+// The vehicle load: the greatest that any position of the axles gives, in either direction of travel, rounded up once.
+pub fn vehicle_load(
+    base: HalfCm,
+    apex: HalfCm,
+    axles: usize,
+    weights: [u32; 16],
+    distances: [u16; 16],
+) -> KgfPerM
+    requires { ⌜ Bounded (base .0) (apex .0) axles weights distances ⌝ }
+    ensures { λ r. ⌜ r .0 ≡ vehicleLoad (base .0) (apex .0) weights distances axles ⌝ }
+{
+    let mirrored = HalfCm(base.0 - apex.0);
+    let one_way = apex_top(base, apex, axles, &weights, &distances);
+    let other_way = apex_top(base, mirrored, axles, &weights, &distances);
+    per_metre(base, apex, heavier(one_way, other_way))
+}

@@ -1,0 +1,78 @@
+-- What one turn of the code's loops adds, and that it all fits 64 bits: an axle's place is the one in front's less a distance,
+-- a height is at most 10^8 and a sum at most 16 axles of 200,000 kgf at that height.
+-- Assumes nothing.
+use Prim.Native.Nat.{ℕ, zero, suc, _+_, _-_, _*_, _^_, _≤_, _<_, max}
+use mathlib.Core.Path.{_≡_, refl}
+use mathlib.Core.List.{List}
+use native.Mathlib.Nat.{mul-le-mul, lt-of-le-of-lt, sub-le, le-trans}
+use native.Mathlib.Numerals.{add-one}
+use native.Mathlib.Decide.{decLe}
+use native.Mathlib.Omega.{arith}
+use lib.ListN.{getD}
+use mir.Val.{Fits}
+use mir.Syntax.{w64}
+use Rattle.influence.specs.Influence.{total, weight, behind}
+use Rattle.influence.specs.Scaled.{top, scaledHeight, scaledSum, apexTop, Bounded}
+use Rattle.influence.proofs.Folds.{total-cap, of-top}
+use Rattle.influence.proofs.Apex.{rising-side, falling-side}
+
+pub product-fits : {x y : ℕ} (a b : ℕ) → x ≤ a → y ≤ b → a * b < 2 ^ 64 → Fits w64 (x * y)
+product-fits a b p q h = record { fits = lt-of-le-of-lt (mul-le-mul p q) h }
+
+-- the distances of the first i axles, in half centimetres
+abbrev pub passed : List ℕ → ℕ → ℕ
+passed ds i = total (λ j. 2 * getD ds j 0) i
+
+pub passed-next : (ds : List ℕ) (i : ℕ) → passed ds (i + 1) ≡ passed ds i + 2 * getD ds i 0
+unfolding total
+passed-next ds i = rw (add-one i) refl
+
+pub behind-passed : (ds : List ℕ) (i : ℕ) → behind ds i ≡ passed ds i + 2 * getD ds i 0
+unfolding behind total
+behind-passed ds i = refl
+
+-- one axle more
+pub sum-next :
+    (U P : ℕ) (w b : ℕ → ℕ) (i u : ℕ) {s k h p : ℕ} →
+    s ≡ scaledSum U P w b i u → k ≡ w i → h ≡ scaledHeight U P p → p ≡ u - b i →
+    s + k * h ≡ scaledSum U P w b (i + 1) u
+unfolding scaledSum total
+sum-next U P w b i u e k h p = rw (add-one i, e, k, h, p) refl
+
+-- one position more
+pub top-next : (f : ℕ → ℕ) (i : ℕ) {t s : ℕ} → t ≡ top f i → s ≡ f i → max t s ≡ top f (i + 1)
+unfolding top
+top-next f i e h = rw (add-one i, e, h) refl
+
+pub height-cap : {U P : ℕ} (s : ℕ) → P ≤ U → U ≤ 10000 → scaledHeight U P s ≤ 100000000
+height-cap {U} {P} s p h = go (decLe s P)
+  where
+    go : Dec (s ≤ P) → scaledHeight U P s ≤ 100000000
+    go (yes l) = rw (rising-side U P s l) (mul-le-mul {n₂ = 10000} {m₂ = 10000} (omega arith) (omega arith))
+    go (no l) = rw (falling-side U P s (omega arith)) (mul-le-mul {n₂ = 10000} {m₂ = 10000} (omega arith) (omega arith))
+
+module _ {U P n : ℕ} {ws ds : List ℕ} (h : Bounded U P n ws ds) where
+  -- of the first m axles
+  pub sum-cap : (m u : ℕ) → m ≤ n → scaledSum U P (weight ws) (behind ds) m u ≤ 20000000000000 * m
+  unfolding scaledSum
+  sum-cap m u l =
+      total-cap _ 20000000000000 m λ i k.
+      mul-le-mul {n₂ = 200000} {m₂ = 100000000} (h .weight i (omega arith)) (height-cap (u - behind ds i) (omega arith) (h .base))
+
+  pub apex-top-cap : apexTop U P (weight ws) (behind ds) n ≤ 20000000000000 * n
+  unfolding apexTop
+  apex-top-cap =
+      of-top (λ m. m ≤ 20000000000000 * n) _ n (omega arith) (λ j l. sum-cap n (P + behind ds j) (omega arith))
+
+  -- the same axles from the other end
+  pub mirrored-bounded : Bounded U (U - P) n ws ds
+  mirrored-bounded =
+      record {
+        after-start = omega arith;
+        before-end = omega arith;
+        base = h .base;
+        some-axle = h .some-axle;
+        axles = h .axles;
+        weight = h .weight;
+        distance = h .distance;
+      }
