@@ -1,7 +1,7 @@
 -- What one turn of the code's loops adds, and that it all fits 64 bits: an axle's place is the one in front's less a distance,
 -- a height is at most 10^8 and a sum at most 16 axles of 200,000 kgf at that height.
 -- Assumes nothing.
-use Prim.Native.Nat.{ℕ, zero, suc, _+_, _-_, _*_, _^_, _≤_, _<_, max}
+use Prim.Native.Nat.{ℕ, zero, suc, _+_, _-_, _*_, _/_, _^_, _≤_, _<_, max}
 use mathlib.Core.Path.{_≡_, refl}
 use mathlib.Core.List.{List}
 use native.Mathlib.Nat.{mul-le-mul, lt-of-le-of-lt, sub-le, le-trans}
@@ -11,7 +11,8 @@ use native.Mathlib.Omega.{arith}
 use lib.ListN.{getD}
 use mir.Val.{Fits}
 use mir.Syntax.{w64}
-use Rattle.influence.specs.Influence.{total, weight, behind}
+use Rattle.section.specs.Fraction.{over, whole, _·_, _÷_, ceiling}
+use Rattle.influence.specs.Influence.{total, perMetre, weight, behind}
 use Rattle.influence.specs.Scaled.{top, scaledHeight, scaledSum, apexTop, Bounded}
 use Rattle.influence.proofs.Folds.{total-cap, of-top}
 use Rattle.influence.proofs.Apex.{rising-side, falling-side}
@@ -44,6 +45,18 @@ pub top-next : (f : ℕ → ℕ) (i : ℕ) {t s : ℕ} → t ≡ top f i → s �
 unfolding top
 top-next f i e h = rw (add-one i, e, h) refl
 
+-- the load's numerator and divisor multiplied out, and rounded up
+pub load-rounded :
+    (U G D : ℕ) {k d : ℕ} → k ≡ 400 * G → d ≡ D * U → (k + (d - 1)) / d ≡ ceiling (perMetre U (over G D))
+unfolding ceiling perMetre over whole _·_ _÷_
+load-rounded U G D {k} {d} p q =
+    let num : 200 * G * 2 ≡ k = omega arith in
+    let den : 1 * D * U ≡ d = omega arith in
+    rw (num, den) refl
+
+pub divisor-cap : (U P : ℕ) → P ≤ U → U ≤ 10000 → P * (U - P) * U ≤ 1000000000000
+divisor-cap U P p h = mul-le-mul {n₂ = 100000000} {m₂ = 10000} (mul-le-mul {n₂ = 10000} {m₂ = 10000} (omega arith) (omega arith)) h
+
 pub height-cap : {U P : ℕ} (s : ℕ) → P ≤ U → U ≤ 10000 → scaledHeight U P s ≤ 100000000
 height-cap {U} {P} s p h = go (decLe s P)
   where
@@ -58,6 +71,9 @@ module _ {U P n : ℕ} {ws ds : List ℕ} (h : Bounded U P n ws ds) where
   sum-cap m u l =
       total-cap _ 20000000000000 m λ i k.
       mul-le-mul {n₂ = 200000} {m₂ = 100000000} (h .weight i (omega arith)) (height-cap (u - behind ds i) (omega arith) (h .base))
+
+  pub passed-cap : (m : ℕ) → m ≤ n → passed ds m ≤ 4000 * m
+  passed-cap m l = total-cap _ 4000 m (λ i k. omega (arith, h .distance i (omega arith)))
 
   pub apex-top-cap : apexTop U P (weight ws) (behind ds) n ≤ 20000000000000 * n
   unfolding apexTop

@@ -7,7 +7,7 @@ use native.Mathlib.Omega.{arith}
 use borrow.Author.Needs.{needs}
 use Rattle.section.specs.Fraction.{over, whole, _·_, _÷_, ceiling}
 use Rattle.influence.specs.Influence.{perMetre}
-use Rattle.influence.proofs.Steps.{product-fits}
+use Rattle.influence.proofs.Steps.{product-fits, divisor-cap, load-rounded}
 use Rattle.influence.proofs.per_metre.Statement.{statement}
 use Rattle.influence.proofs.per_metre.Tie as tie
 use Rattle.influence.proofs.per_metre.Reads as reads
@@ -26,16 +26,18 @@ mul-t5 : tie.Need-mul-t5
 mul-t5 c = search needs
 
 sub-t6 : tie.Need-sub-t6
-sub-t6 c = ?
+sub-t6 c = mul-pos (mul-pos (omega arith) (omega arith)) (omega arith)
 
 add-t7 : tie.Need-add-t7
-add-t7 c = ?
+add-t7 c =
+    let start = c .before .before .before .before .before .args in
+    record { fits = omega (arith, divisor-cap (start .base .0) (start .apex .0) (omega arith) (omega arith)) }
 
 div-t8 : tie.Need-div-t8
-div-t8 c = ?
+div-t8 c = mul-pos (mul-pos (omega arith) (omega arith)) (omega arith)
 
 returns : tie.Need-returns
-returns c = ?
+returns c = load-rounded _ _ _ (omega arith) (omega arith)
 
 pub per-metre-spec : {M : Type 1} → statement M
 per-metre-spec =
