@@ -64,7 +64,7 @@ module _ {U P : ℕ} (w b : ℕ → ℕ) (n D : ℕ) (t : Triangle U P) (d : D �
   one-way-given = of-greatest (λ c. (u : ℕ) × (c ≡ gives U P w b n u)) _ _ (λ u. (u, refl))
 
 -- both directions have the same divisor
-same-divisor : {U P : ℕ} → Triangle U P → P * (U - P) ≡ (U - P) * (U - (U - P))
+pub same-divisor : {U P : ℕ} → Triangle U P → P * (U - P) ≡ (U - P) * (U - (U - P))
 same-divisor {U} {P} t =
     let back : U - (U - P) ≡ P = omega arith in
     rw back (mul-comm P (U - P))
@@ -103,11 +103,11 @@ module _ {U P : ℕ} (w b : ℕ → ℕ) (n : ℕ) (t : Triangle U P) where
     greatest-computed = record { out = le-antisymm (greatest-at-most .out) (greatest-at-least .out) }
 
     -- a bound of the whole numbers is one of the fractions
-    under : {a : Fraction} → a ⊑ perMetre U (over (scaledGreatest U P w b n) (P * (U - P))) → a ⊑ greatest U P w b n
-    under p = ⊑-trans (perMetre-sound (omega arith) (over-sound _ _ (divisor-above-0 w b n 0 t))) p greatest-at-least
+    pub at-most-greatest : {a : Fraction} → a ⊑ perMetre U (over (scaledGreatest U P w b n) (P * (U - P))) → a ⊑ greatest U P w b n
+    at-most-greatest p = ⊑-trans (perMetre-sound (omega arith) (over-sound _ _ (divisor-above-0 w b n 0 t))) p greatest-at-least
 
     -- no position gives more, however far off, in either direction of travel
     pub greatest-bounds : (u : ℕ) → (gives U P w b n u ⊑ greatest U P w b n) × (gives U (U - P) w b n u ⊑ greatest U P w b n)
     unfolding scaledGreatest
     greatest-bounds u =
-        (under (gives-at-most w b n _ t refl u (le-trans (apex-top U P w b n (omega arith) u) (le-max-left _ _))), under (gives-at-most w b n _ (mirrored t) (same-divisor t) u (le-trans (apex-top U (U - P) w b n (omega arith) u) (le-max-right _ _))))
+        (at-most-greatest (gives-at-most w b n _ t refl u (le-trans (apex-top U P w b n (omega arith) u) (le-max-left _ _))), at-most-greatest (gives-at-most w b n _ (mirrored t) (same-divisor t) u (le-trans (apex-top U (U - P) w b n (omega arith) u) (le-max-right _ _))))

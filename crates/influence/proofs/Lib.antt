@@ -3,3 +3,5 @@ pub mod Apex
 pub mod Scaled
 pub mod Greatest
 pub mod Steps
+pub mod Load
+pub mod Fine

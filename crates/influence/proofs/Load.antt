@@ -1,0 +1,86 @@
+-- The vehicle load covers every position and is less than one unit above the greatest; it is what the code computes; and it
+-- never falls where axles grow heavier or are added behind, since each position then gives at least as much.
+-- Assumes nothing.
+use Prim.Native.Nat.{ℕ, zero, suc, _+_, _-_, _*_, _≤_, _<_, max}
+use mathlib.Core.Path.{_≡_, refl, ap}
+use mathlib.Core.List.{List}
+use native.Mathlib.Nat.{le-trans, mul-le-mul-right}
+use native.Mathlib.Omega.{arith}
+use lib.ListN.{getD}
+use Rattle.section.specs.Fraction.{Fraction, Sound, over, whole, ceiling, _⊑_, RoundedUp}
+use Rattle.section.proofs.Order.{⊑-trans}
+use Rattle.section.proofs.Rounding.{rounded-up, ceiling-mono, ceiling-same}
+use Rattle.influence.specs.Influence.{Triangle, perMetre, gives, greatest, weight, behind, vehicleLoad}
+use Rattle.influence.specs.Scaled.{scaledHeight, scaledSum, apexTop, scaledGreatest}
+use Rattle.influence.proofs.Folds.{total-le, total-same, total-more, of-top}
+use Rattle.influence.proofs.Apex.{apex-top}
+use Rattle.influence.proofs.Scaled.{over-sound, over-mono, perMetre-mono, perMetre-sound, divisor-above-0}
+use Rattle.influence.proofs.Greatest.{behind-last, greatest-sound, greatest-computed, greatest-bounds}
+
+-- the load of a sum that is scaled by P × (U - P)
+abbrev pub loadOf : (U P G : ℕ) → ℕ
+loadOf U P G = ceiling (perMetre U (over G (P * (U - P))))
+
+load-sound : {U P : ℕ} (G : ℕ) → Triangle U P → Sound (perMetre U (over G (P * (U - P))))
+load-sound G t = perMetre-sound (omega arith) (over-sound G _ (divisor-above-0 (λ i. i) (λ i. i) 0 0 t))
+
+module _ {U P : ℕ} (ws ds : List ℕ) (n : ℕ) (t : Triangle U P) where
+  pub load-computed : vehicleLoad U P ws ds n ≡ loadOf U P (scaledGreatest U P (weight ws) (behind ds) n)
+  unfolding vehicleLoad
+  load-computed =
+      ceiling-same (greatest-sound _ _ n t) (load-sound _ t) (greatest-computed _ _ n t (behind-last ds n))
+
+  -- never below the greatest, and less than one unit above it
+  pub load-rounded-up : RoundedUp (greatest U P (weight ws) (behind ds) n) (vehicleLoad U P ws ds n)
+  unfolding vehicleLoad
+  load-rounded-up = rounded-up _ (greatest-sound _ _ n t)
+
+  under : {a : Fraction} → a ⊑ greatest U P (weight ws) (behind ds) n → a ⊑ whole (vehicleLoad U P ws ds n)
+  under p = ⊑-trans (greatest-sound _ _ n t) p (load-rounded-up .never-below)
+
+  -- at least what every position gives, however far off, in either direction of travel
+  pub load-covers :
+      (u : ℕ) →
+      (gives U P (weight ws) (behind ds) n u ⊑ whole (vehicleLoad U P ws ds n)) ×
+      (gives U (U - P) (weight ws) (behind ds) n u ⊑ whole (vehicleLoad U P ws ds n))
+  load-covers u =
+      let bounds = greatest-bounds (weight ws) (behind ds) n t (behind-last ds n) u in
+      (under (bounds .0), under (bounds .1))
+
+-- what the code computes never falls where axles grow heavier or are added behind
+module _ (U : ℕ) (w w' b b' : ℕ → ℕ) {n n' : ℕ} (more : n ≤ n') (heavier : (i : ℕ) → i < n → w i ≤ w' i) (alike : (i : ℕ) → i < n → b i ≡ b' i) where
+  sum-grows : (P u : ℕ) → scaledSum U P w b n u ≤ scaledSum U P w' b' n' u
+  unfolding scaledSum
+  sum-grows P u =
+      le-trans
+      (total-le _ (λ i. w' i * scaledHeight U P (u - b' i)) n (λ i l. rw (alike i l) (mul-le-mul-right _ (heavier i l))))
+      (total-more _ more)
+
+  top-grows : {P : ℕ} → P ≤ U → apexTop U P w b n ≤ apexTop U P w' b' n'
+  unfolding apexTop
+  top-grows {P} p =
+      of-top (λ m. m ≤ apexTop U P w' b' n') _ n (omega arith)
+      (λ j l. le-trans (sum-grows P (P + b j)) (apex-top U P w' b' n' p (P + b j)))
+
+  greatest-grows : {P : ℕ} → P ≤ U → scaledGreatest U P w b n ≤ scaledGreatest U P w' b' n'
+  unfolding scaledGreatest
+  greatest-grows {P} p = omega (arith, top-grows p, top-grows {P = U - P} (omega arith))
+
+-- distances alike put the axles at the same places
+behind-alike :
+    (ds ds' : List ℕ) {n : ℕ} → ((i : ℕ) → i < n → getD ds i 0 ≡ getD ds' i 0) → (i : ℕ) → i < n → behind ds i ≡ behind ds' i
+unfolding behind
+behind-alike ds ds' alike i l = total-same _ _ (suc i) (λ j k. ap (λ d. 2 * d) (alike j (omega arith)))
+
+-- the vehicle load never falls where axles grow heavier or are added behind
+pub load-grows :
+    {U P : ℕ} (ws ds ws' ds' : List ℕ) {n n' : ℕ} →
+    Triangle U P → n ≤ n' →
+    ((i : ℕ) → i < n → getD ws i 0 ≤ getD ws' i 0) → ((i : ℕ) → i < n → getD ds i 0 ≡ getD ds' i 0) →
+    vehicleLoad U P ws ds n ≤ vehicleLoad U P ws' ds' n'
+load-grows {U} {P} ws ds ws' ds' {n} {n'} t more heavier alike =
+    rw (load-computed ws ds n t, load-computed ws' ds' n' t)
+    (ceiling-mono (load-sound _ t) (load-sound _ t)
+    (perMetre-mono U
+    (over-mono _
+    (greatest-grows U (weight ws) (weight ws') (behind ds) (behind ds') more heavier (behind-alike ds ds' alike) (omega arith)))))
