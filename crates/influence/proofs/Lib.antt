@@ -5,3 +5,4 @@ pub mod Greatest
 pub mod Steps
 pub mod Load
 pub mod Fine
+pub mod Coupled

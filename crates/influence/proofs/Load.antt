@@ -21,7 +21,7 @@ use Rattle.influence.proofs.Greatest.{behind-last, greatest-sound, grea
 abbrev pub loadOf : (U P G : ℕ) → ℕ
 loadOf U P G = ceiling (perMetre U (over G (P * (U - P))))
 
-load-sound : {U P : ℕ} (G : ℕ) → Triangle U P → Sound (perMetre U (over G (P * (U - P))))
+pub load-sound : {U P : ℕ} (G : ℕ) → Triangle U P → Sound (perMetre U (over G (P * (U - P))))
 load-sound G t = perMetre-sound (omega arith) (over-sound G _ (divisor-above-0 (λ i. i) (λ i. i) 0 0 t))
 
 module _ {U P : ℕ} (ws ds : List ℕ) (n : ℕ) (t : Triangle U P) where
@@ -67,7 +67,7 @@ module _ (U : ℕ) (w w' b b' : ℕ → ℕ) {n n' : ℕ} (more : n ≤ n') (hea
   greatest-grows {P} p = omega (arith, top-grows p, top-grows {P = U - P} (omega arith))
 
 -- distances alike put the axles at the same places
-behind-alike :
+pub behind-alike :
     (ds ds' : List ℕ) {n : ℕ} → ((i : ℕ) → i < n → getD ds i 0 ≡ getD ds' i 0) → (i : ℕ) → i < n → behind ds i ≡ behind ds' i
 unfolding behind
 behind-alike ds ds' alike i l = total-same _ _ (suc i) (λ j k. ap (λ d. 2 * d) (alike j (omega arith)))

@@ -5,7 +5,6 @@ ghost use Prim.Native.Nat.{_-_, _*_, _≤_, max};
 ghost use Rattle.section.specs.Fraction.{over, ceiling};
 ghost use Rattle.influence.specs.Influence.{Triangle, perMetre, weight, behind, vehicleLoad};
 ghost use Rattle.influence.specs.Scaled.{scaledHeight, scaledSum, apexTop, Bounded};
-
 use section::Cm;
 use section::Kgf;
 use section::KgfPerM;
@@ -47,11 +46,7 @@ fn beyond(a: HalfCm, b: HalfCm) -> HalfCm
 fn heavier(a: Kgf, b: Kgf) -> Kgf
     ensures { λ r. ⌜ r .0 ≡ max (a .0) (b .0) ⌝ }
 {
-    if a.0 < b.0 {
-        b
-    } else {
-        a
-    }
+    if a.0 < b.0 { b } else { a }
 }
 
 // The height at `place` times apex × (base − apex), a whole number.
@@ -76,9 +71,7 @@ fn sum_at(
     front: HalfCm,
 ) -> Kgf
     requires { ⌜ Bounded (base .0) (apex .0) axles (now weights) (now distances) ⌝ }
-    ensures {
-        λ r. ⌜ r .0 ≡ scaledSum (base .0) (apex .0) (weight (now (weights .entry))) (behind (now (distances .entry))) axles (front .0) ⌝
-    }
+    ensures { λ r. ⌜ r .0 ≡ scaledSum (base .0) (apex .0) (weight (now (weights .entry))) (behind (now (distances .entry))) axles (front .0) ⌝ }
 {
     let mut sum: u64 = 0;
     let mut place = front;
@@ -92,11 +85,15 @@ fn sum_at(
 }
 
 // The greatest of the sums that put an axle over the apex.
-fn apex_top(base: HalfCm, apex: HalfCm, axles: usize, weights: &[u32; 16], distances: &[u16; 16]) -> Kgf
+fn apex_top(
+    base: HalfCm,
+    apex: HalfCm,
+    axles: usize,
+    weights: &[u32; 16],
+    distances: &[u16; 16],
+) -> Kgf
     requires { ⌜ Bounded (base .0) (apex .0) axles (now weights) (now distances) ⌝ }
-    ensures {
-        λ r. ⌜ r .0 ≡ apexTop (base .0) (apex .0) (weight (now (weights .entry))) (behind (now (distances .entry))) axles ⌝
-    }
+    ensures { λ r. ⌜ r .0 ≡ apexTop (base .0) (apex .0) (weight (now (weights .entry))) (behind (now (distances .entry))) axles ⌝ }
 {
     let mut top = Kgf(0);
     let mut front = apex;

@@ -71,15 +71,16 @@ loop-again c =
     let at = c .before .before .before .before .before .before .before .before in
     let start = at .before .args in
     let over-apex : at .loop .front .0 + c .before .before .before .before .half-cm .result .0 ≡ start .apex .0 + behind (start .distances .now) (at .loop .i) =
-        omega (arith, behind-passed (start .distances .now) (at .loop .i)) in
+    omega (arith, behind-passed (start .distances .now) (at .loop .i)) in
     let sum-over-apex =
-        c .before .sum-at .ensures ∙
-        ap (scaledSum (start .base .0) (start .apex .0) (weight (start .weights .now)) (behind (start .distances .now)) (start .axles)) over-apex in
-    (omega arith,
+    c .before .sum-at .ensures ∙
+    ap (scaledSum (start .base .0) (start .apex .0) (weight (start .weights .now)) (behind (start .distances .now)) (start .axles)) over-apex in (
+      omega arith,
       c .heavier .ensures ∙
-      top-next (λ j. scaledSum (start .base .0) (start .apex .0) (weight (start .weights .now)) (behind (start .distances .now)) (start .axles) (start .apex .0 + behind (start .distances .now) j))
-      (at .loop .i) (at .loop .inv .1) sum-over-apex,
-      omega (arith, passed-next (start .distances .now) (at .loop .i)))
+          top-next (λ j. scaledSum (start .base .0) (start .apex .0) (weight (start .weights .now)) (behind (start .distances .now)) (start .axles) (start .apex .0 + behind (start .distances .now) j))
+          (at .loop .i) (at .loop .inv .1) sum-over-apex,
+      omega (arith, passed-next (start .distances .now) (at .loop .i)),
+    )
 
 returns : tie.Need-returns Inv-loop μ-loop
 unfolding apexTop

@@ -38,7 +38,7 @@ unfolding scaledGreatest
 returns c =
     let start = c .before .before .before .before .before .before .before .before .before .before in
     let sum : c .before .heavier .result .0 ≡ scaledGreatest (start .args .base .0) (start .args .apex .0) (weight (start .args .t4)) (behind (start .args .t5)) (start .args .axles) =
-        rw (c .before .heavier .ensures, c .before .before .apex-top2 .ensures, c .before .before .before .before .before .apex-top .ensures) refl in
+    rw (c .before .heavier .ensures, c .before .before .apex-top2 .ensures, c .before .before .before .before .before .apex-top .ensures) refl in
     c .per-metre .ensures ∙ ap (loadOf (start .args .base .0) (start .args .apex .0)) sum ∙ sym (load-computed _ _ _ (omega arith))
 
 pub vehicle-load-spec : {M : Type 1} → statement M
