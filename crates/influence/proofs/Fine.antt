@@ -53,7 +53,7 @@ module _ (k U P : ℕ) (w b : ℕ → ℕ) (n : ℕ) where
   unfolding over
   fine-at-most D G d t z h u =
       perMetre-mono U
-      (⊑-trans (over-sound _ _ (divisor-above-0 w b n u fine)) (≐-⊑ (axleSum-over (k * U) (k * P) w (λ i. k * b i) n u))
+      (⊑-trans (over-sound _ _ (divisor-above-0 fine)) (≐-⊑ (axleSum-over (k * U) (k * P) w (λ i. k * b i) n u))
       (record { out = rw (d, ← mul-sub k U P) (omega (arith, mul-le-mul-right (P * (U - P)) below)) }))
     where
       fine : Triangle (k * U) (k * P)

@@ -29,32 +29,8 @@ nothing-at-most : (U D : ℕ) (a : Fraction) → perMetre U (over 0 D) ⊑ a
 unfolding perMetre over whole _·_ _÷_
 nothing-at-most U D a = record { out = omega arith }
 
--- one direction of travel, over the divisor D that both have
-module _ {U P : ℕ} (w b : ℕ → ℕ) (n D : ℕ) (t : Triangle U P) (d : D ≡ P * (U - P)) where
-  pub gives-at-most : {G : ℕ} (u : ℕ) → scaledSum U P w b n u ≤ G → gives U P w b n u ⊑ perMetre U (over G D)
-  unfolding gives
-  gives-at-most u h =
-      rw d
-      (perMetre-mono U
-      (⊑-trans (over-sound _ _ (divisor-above-0 w b n u t)) (≐-⊑ (axleSum-over U P w b n u)) (over-mono _ h)))
-
-  gives-itself : (u : ℕ) → perMetre U (over (scaledSum U P w b n u) D) ⊑ gives U P w b n u
-  unfolding gives
-  gives-itself u = rw d (perMetre-mono U (≐-⊒ (axleSum-over U P w b n u)))
-
-  one-way-at-most : {G : ℕ} → apexTop U P w b n ≤ G → greatestOneWay U P w b n ⊑ perMetre U (over G D)
-  unfolding greatestOneWay
-  one-way-at-most {G} h =
-      of-greatest (λ c. c ⊑ perMetre U (over G D)) _ _
-      (λ u. gives-at-most u (le-trans (apex-top U P w b n (omega arith) u) h))
-
-  one-way-at-least : LastBehind b n → perMetre U (over (apexTop U P w b n) D) ⊑ greatestOneWay U P w b n
-  unfolding greatestOneWay apexTop
-  one-way-at-least last =
-      of-top (λ m. perMetre U (over m D) ⊑ greatestOneWay U P w b n) _ n (nothing-at-most U D _) λ j l.
-      ⊑-trans (gives-sound w b n (P + b j) t) (gives-itself (P + b j))
-      (greatest-at _ (λ u. gives-sound w b n u t) _ (P + b j) (omega (arith, last j l)))
-
+-- one direction of travel
+module _ {U P : ℕ} (w b : ℕ → ℕ) (n : ℕ) (t : Triangle U P) where
   one-way-sound : Sound (greatestOneWay U P w b n)
   unfolding greatestOneWay
   one-way-sound = of-greatest Sound _ _ (λ u. gives-sound w b n u t)
@@ -62,6 +38,33 @@ module _ {U P : ℕ} (w b : ℕ → ℕ) (n D : ℕ) (t : Triangle U P) (d : D �
   one-way-given : (u : ℕ) × (greatestOneWay U P w b n ≡ gives U P w b n u)
   unfolding greatestOneWay
   one-way-given = of-greatest (λ c. (u : ℕ) × (c ≡ gives U P w b n u)) _ _ (λ u. (u, refl))
+
+  -- over the divisor D that both directions have
+  module _ (D : ℕ) (d : D ≡ P * (U - P)) where
+    gives-at-most : {G : ℕ} (u : ℕ) → scaledSum U P w b n u ≤ G → gives U P w b n u ⊑ perMetre U (over G D)
+    unfolding gives
+    gives-at-most u h =
+        rw d
+        (perMetre-mono U
+        (⊑-trans (over-sound _ _ (divisor-above-0 t)) (≐-⊑ (axleSum-over U P w b n u)) (over-mono _ h)))
+
+    gives-at-least : (u : ℕ) → perMetre U (over (scaledSum U P w b n u) D) ⊑ gives U P w b n u
+    unfolding gives
+    gives-at-least u = rw d (perMetre-mono U (≐-⊒ (axleSum-over U P w b n u)))
+
+    one-way-bounds : {G : ℕ} → apexTop U P w b n ≤ G → (u : ℕ) → gives U P w b n u ⊑ perMetre U (over G D)
+    one-way-bounds h u = gives-at-most u (le-trans (apex-top U P w b n (omega arith) u) h)
+
+    one-way-at-most : {G : ℕ} → apexTop U P w b n ≤ G → greatestOneWay U P w b n ⊑ perMetre U (over G D)
+    unfolding greatestOneWay
+    one-way-at-most {G} h = of-greatest (λ c. c ⊑ perMetre U (over G D)) _ _ (one-way-bounds h)
+
+    one-way-at-least : LastBehind b n → perMetre U (over (apexTop U P w b n) D) ⊑ greatestOneWay U P w b n
+    unfolding greatestOneWay apexTop
+    one-way-at-least last =
+        of-top (λ m. perMetre U (over m D) ⊑ greatestOneWay U P w b n) _ n (nothing-at-most U D _) λ j l.
+        ⊑-trans (gives-sound w b n (P + b j) t) (gives-at-least (P + b j))
+        (greatest-at _ (λ u. gives-sound w b n u t) _ (P + b j) (omega (arith, last j l)))
 
 -- both directions have the same divisor
 pub same-divisor : {U P : ℕ} → Triangle U P → P * (U - P) ≡ (U - P) * (U - (U - P))
@@ -72,7 +75,7 @@ same-divisor {U} {P} t =
 module _ {U P : ℕ} (w b : ℕ → ℕ) (n : ℕ) (t : Triangle U P) where
   pub greatest-sound : Sound (greatest U P w b n)
   unfolding greatest
-  greatest-sound = of-greater Sound (one-way-sound w b n _ t refl) (one-way-sound w b n _ (mirrored t) refl)
+  greatest-sound = of-greater Sound (one-way-sound w b n t) (one-way-sound w b n (mirrored t))
 
   -- it is what some position gives
   pub greatest-given :
@@ -81,22 +84,22 @@ module _ {U P : ℕ} (w b : ℕ → ℕ) (n : ℕ) (t : Triangle U P) where
   greatest-given =
       of-greater
       (λ c. ((u : ℕ) × (c ≡ gives U P w b n u)) ⊎ ((u : ℕ) × (c ≡ gives U (U - P) w b n u)))
-      (inl (one-way-given w b n _ t refl)) (inr (one-way-given w b n _ (mirrored t) refl))
+      (inl (one-way-given w b n t)) (inr (one-way-given w b n (mirrored t)))
 
   greatest-at-most : greatest U P w b n ⊑ perMetre U (over (scaledGreatest U P w b n) (P * (U - P)))
   unfolding greatest scaledGreatest
   greatest-at-most =
       of-greater (λ c. c ⊑ perMetre U (over (scaledGreatest U P w b n) (P * (U - P))))
-      (one-way-at-most w b n _ t refl (le-max-left _ _))
-      (one-way-at-most w b n _ (mirrored t) (same-divisor t) (le-max-right _ _))
+      (one-way-at-most w b n t _ refl (le-max-left _ _))
+      (one-way-at-most w b n (mirrored t) _ (same-divisor t) (le-max-right _ _))
 
   module _ (last : LastBehind b n) where
     greatest-at-least : perMetre U (over (scaledGreatest U P w b n) (P * (U - P))) ⊑ greatest U P w b n
     unfolding greatest scaledGreatest
     greatest-at-least =
         of-max (λ m. perMetre U (over m (P * (U - P))) ⊑ greatest U P w b n) _ _
-        (⊑-trans (one-way-sound w b n _ t refl) (one-way-at-least w b n _ t refl last) (greater-left _ _))
-        (⊑-trans (one-way-sound w b n _ (mirrored t) refl) (one-way-at-least w b n _ (mirrored t) (same-divisor t) last) (greater-right _ _))
+        (⊑-trans (one-way-sound w b n t) (one-way-at-least w b n t _ refl last) (greater-left _ _))
+        (⊑-trans (one-way-sound w b n (mirrored t)) (one-way-at-least w b n (mirrored t) _ (same-divisor t) last) (greater-right _ _))
 
     -- what the code computes is the greatest
     pub greatest-computed : greatest U P w b n ≐ perMetre U (over (scaledGreatest U P w b n) (P * (U - P)))
@@ -104,10 +107,12 @@ module _ {U P : ℕ} (w b : ℕ → ℕ) (n : ℕ) (t : Triangle U P) where
 
     -- a bound of the whole numbers is one of the fractions
     pub at-most-greatest : {a : Fraction} → a ⊑ perMetre U (over (scaledGreatest U P w b n) (P * (U - P))) → a ⊑ greatest U P w b n
-    at-most-greatest p = ⊑-trans (perMetre-sound (omega arith) (over-sound _ _ (divisor-above-0 w b n 0 t))) p greatest-at-least
+    at-most-greatest p = ⊑-trans (perMetre-sound (omega arith) (over-sound _ _ (divisor-above-0 t))) p greatest-at-least
 
     -- no position gives more, however far off, in either direction of travel
     pub greatest-bounds : (u : ℕ) → (gives U P w b n u ⊑ greatest U P w b n) × (gives U (U - P) w b n u ⊑ greatest U P w b n)
     unfolding scaledGreatest
-    greatest-bounds u =
-        (at-most-greatest (gives-at-most w b n _ t refl u (le-trans (apex-top U P w b n (omega arith) u) (le-max-left _ _))), at-most-greatest (gives-at-most w b n _ (mirrored t) (same-divisor t) u (le-trans (apex-top U (U - P) w b n (omega arith) u) (le-max-right _ _))))
+    greatest-bounds u = (
+      at-most-greatest (one-way-bounds w b n t _ refl (le-max-left _ _) u),
+      at-most-greatest (one-way-bounds w b n (mirrored t) _ (same-divisor t) (le-max-right _ _) u),
+    )

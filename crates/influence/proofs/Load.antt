@@ -22,13 +22,20 @@ abbrev pub loadOf : (U P G : ℕ) → ℕ
 loadOf U P G = ceiling (perMetre U (over G (P * (U - P))))
 
 pub load-sound : {U P : ℕ} (G : ℕ) → Triangle U P → Sound (perMetre U (over G (P * (U - P))))
-load-sound G t = perMetre-sound (omega arith) (over-sound G _ (divisor-above-0 (λ i. i) (λ i. i) 0 0 t))
+load-sound G t = perMetre-sound (omega arith) (over-sound G _ (divisor-above-0 t))
 
 module _ {U P : ℕ} (ws ds : List ℕ) (n : ℕ) (t : Triangle U P) where
   pub load-computed : vehicleLoad U P ws ds n ≡ loadOf U P (scaledGreatest U P (weight ws) (behind ds) n)
   unfolding vehicleLoad
   load-computed =
       ceiling-same (greatest-sound _ _ n t) (load-sound _ t) (greatest-computed _ _ n t (behind-last ds n))
+
+  -- what the code has at its end
+  pub load-from-tops :
+      {r g one other : ℕ} → r ≡ loadOf U P g → g ≡ max one other → one ≡ apexTop U P (weight ws) (behind ds) n →
+      other ≡ apexTop U (U - P) (weight ws) (behind ds) n → r ≡ vehicleLoad U P ws ds n
+  unfolding scaledGreatest
+  load-from-tops r g one other = rw (load-computed, r, g, one, other) refl
 
   -- never below the greatest, and less than one unit above it
   pub load-rounded-up : RoundedUp (greatest U P (weight ws) (behind ds) n) (vehicleLoad U P ws ds n)

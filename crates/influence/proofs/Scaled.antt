@@ -17,6 +17,9 @@ use Rattle.influence.proofs.Folds.{sum-over, sum-sound}
 pub mirrored : {U P : ℕ} → Triangle U P → Triangle U (U - P)
 mirrored t = omega arith
 
+pub divisor-above-0 : {U P : ℕ} → Triangle U P → 0 < P * (U - P)
+divisor-above-0 t = mul-pos (t .after-start) (omega arith)
+
 pub over-sound : (x D : ℕ) → 0 < D → Sound (over x D)
 unfolding over
 over-sound x D h = record { above-0 = h }
@@ -67,6 +70,3 @@ module _ {U P : ℕ} (w b : ℕ → ℕ) (n u : ℕ) (t : Triangle U P) where
   pub gives-sound : Sound (gives U P w b n u)
   unfolding gives
   gives-sound = perMetre-sound (omega arith) axleSum-sound
-
-  pub divisor-above-0 : 0 < P * (U - P)
-  divisor-above-0 = mul-pos (t .after-start) (omega arith)

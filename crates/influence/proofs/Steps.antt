@@ -1,7 +1,7 @@
 -- What one turn of the code's loops adds, and that it all fits 64 bits: an axle's place is the one in front's less a distance,
 -- a height is at most 10^8 and a sum at most 16 axles of 200,000 kgf at that height.
 -- Assumes nothing.
-use Prim.Native.Nat.{ℕ, zero, suc, _+_, _-_, _*_, _/_, _^_, _≤_, _<_, max}
+use Prim.Native.Nat.{ℕ, zero, suc, _+_, _-_, _*_, _^_, _≤_, _<_, max}
 use mathlib.Core.Path.{_≡_, refl}
 use mathlib.Core.List.{List}
 use native.Mathlib.Nat.{mul-le-mul, lt-of-le-of-lt, sub-le, le-trans}
@@ -11,11 +11,12 @@ use native.Mathlib.Omega.{arith}
 use lib.ListN.{getD}
 use mir.Val.{Fits}
 use mir.Syntax.{w64}
-use Rattle.section.specs.Fraction.{over, whole, _·_, _÷_, ceiling}
+use Rattle.section.specs.Fraction.{over, whole, _·_, _÷_}
 use Rattle.influence.specs.Influence.{total, perMetre, weight, behind}
 use Rattle.influence.specs.Scaled.{top, scaledHeight, scaledSum, apexTop, Bounded}
 use Rattle.influence.proofs.Folds.{total-cap, of-top}
 use Rattle.influence.proofs.Apex.{rising-side, falling-side}
+use Rattle.influence.proofs.Scaled.{mirrored}
 
 pub product-fits : {x y : ℕ} (a b : ℕ) → x ≤ a → y ≤ b → a * b < 2 ^ 64 → Fits w64 (x * y)
 product-fits a b p q h = record { fits = lt-of-le-of-lt (mul-le-mul p q) h }
@@ -40,16 +41,20 @@ pub sum-next :
 unfolding scaledSum total
 sum-next U P w b i u e k h p = rw (add-one i, e, k, h, p) refl
 
--- one position more
-pub top-next : (f : ℕ → ℕ) (i : ℕ) {t s : ℕ} → t ≡ top f i → s ≡ f i → max t s ≡ top f (i + 1)
-unfolding top
-top-next f i e h = rw (add-one i, e, h) refl
+-- the top over the positions that put one of the first j axles over the apex, and one position more
+abbrev pub topOf : (U P : ℕ) (w b : ℕ → ℕ) (n j : ℕ) → ℕ
+topOf U P w b n j = top (λ i. scaledSum U P w b n (P + b i)) j
 
--- the load's numerator and divisor multiplied out, and rounded up
-pub load-rounded :
-    (U G D : ℕ) {k d : ℕ} → k ≡ 400 * G → d ≡ D * U → (k + (d - 1)) / d ≡ ceiling (perMetre U (over G D))
-unfolding ceiling perMetre over whole _·_ _÷_
-load-rounded U G D {k} {d} p q =
+pub top-next :
+    (U P : ℕ) (w b : ℕ → ℕ) (n j : ℕ) {r t s u : ℕ} →
+    r ≡ max t s → t ≡ topOf U P w b n j → s ≡ scaledSum U P w b n u → u ≡ P + b j → r ≡ topOf U P w b n (j + 1)
+unfolding top
+top-next U P w b n j e t s u = rw (add-one j, e, t, s, u) refl
+
+-- the load's numerator and divisor, multiplied out
+pub load-over : (U G D : ℕ) {k d : ℕ} → k ≡ 400 * G → d ≡ D * U → over k d ≡ perMetre U (over G D)
+unfolding perMetre over whole _·_ _÷_
+load-over U G D {k} {d} p q =
     let num : 200 * G * 2 ≡ k = omega arith in
     let den : 1 * D * U ≡ d = omega arith in
     rw (num, den) refl
@@ -84,10 +89,8 @@ module _ {U P n : ℕ} {ws ds : List ℕ} (h : Bounded U P n ws ds) where
   pub mirrored-bounded : Bounded U (U - P) n ws ds
   mirrored-bounded =
       record {
-        after-start = omega arith;
-        before-end = omega arith;
+        triangle = mirrored (h .triangle);
         base = h .base;
-        some-axle = h .some-axle;
         axles = h .axles;
         weight = h .weight;
         distance = h .distance;

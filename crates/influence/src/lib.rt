@@ -8,6 +8,7 @@ ghost use Rattle.influence.specs.Scaled.{scaledHeight, scaledSum, apexTo
 use section::Cm;
 use section::Kgf;
 use section::KgfPerM;
+use section::fraction;
 
 // A length along the base, in half centimetres.
 pub struct HalfCm(pub u64);
@@ -36,11 +37,7 @@ fn kgf(w: u32) -> Kgf
 fn beyond(a: HalfCm, b: HalfCm) -> HalfCm
     ensures { λ r. ⌜ r .0 ≡ a .0 - b .0 ⌝ }
 {
-    if b.0 < a.0 {
-        HalfCm(a.0 - b.0)
-    } else {
-        HalfCm(0)
-    }
+    HalfCm(fraction::less(a.0, b.0))
 }
 
 fn heavier(a: Kgf, b: Kgf) -> Kgf
@@ -97,24 +94,26 @@ fn apex_top(
 {
     let mut top = Kgf(0);
     let mut front = apex;
-    let mut i = 0;
-    while i < axles {
-        front = HalfCm(front.0 + half_cm(centimetres(distances[i])).0);
-        top = heavier(top, sum_at(base, apex, axles, weights, distances, front));
-        i += 1;
+    let mut j = 0;
+    while j < axles {
+        let place = front.0 + half_cm(centimetres(distances[j])).0;
+        front = HalfCm(place);
+        let sum = sum_at(base, apex, axles, weights, distances, front);
+        top = heavier(top, sum);
+        j += 1;
     }
     top
 }
 
-// The vehicle load's formula, rounded up once, of a sum that is scaled by apex × (base − apex).
+// The vehicle load's formula, rounded up once, of a sum that is scaled by apex × (base − apex). The sum is at most that of 16
+// axles of 200,000 kgf at a scaled height of 10,000 × 10,000.
 fn per_metre(base: HalfCm, apex: HalfCm, sum: Kgf) -> KgfPerM
-    requires { ⌜ Triangle (base .0) (apex .0) ⌝ }
-    requires { ⌜ base .0 ≤ 10000 ⌝ }
-    requires { ⌜ sum .0 ≤ 320000000000000 ⌝ }
+    requires { ⌜ Triangle (base .0) (apex .0) × (base .0 ≤ 10000) × (sum .0 ≤ 320000000000000) ⌝ }
     ensures { λ r. ⌜ r .0 ≡ ceiling (perMetre (base .0) (over (sum .0) (apex .0 * (base .0 - apex .0)))) ⌝ }
 {
-    let divisor = apex.0 * (base.0 - apex.0) * base.0;
-    KgfPerM((400 * sum.0 + (divisor - 1)) / divisor)
+    let scale = apex.0 * (base.0 - apex.0);
+    let load = fraction::round_up(400 * sum.0, scale * base.0);
+    KgfPerM(load)
 }
 
 // The vehicle load: the greatest that any position of the axles gives, in either direction of travel, rounded up once.
@@ -128,7 +127,8 @@ pub fn vehicle_load(
     requires { ⌜ Bounded (base .0) (apex .0) axles weights distances ⌝ }
     ensures { λ r. ⌜ r .0 ≡ vehicleLoad (base .0) (apex .0) weights distances axles ⌝ }
 {
-    let mirrored = HalfCm(base.0 - apex.0);
+    let other_end = base.0 - apex.0;
+    let mirrored = HalfCm(other_end);
     let one_way = apex_top(base, apex, axles, &weights, &distances);
     let other_way = apex_top(base, mirrored, axles, &weights, &distances);
     per_metre(base, apex, heavier(one_way, other_way))

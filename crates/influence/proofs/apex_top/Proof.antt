@@ -2,35 +2,26 @@
 -- beyond the apex by the distances passed, so that the next axle comes to stand over the apex.
 -- Assumes nothing.
 use Prim.Native.Nat.{_≤_, _+_, _*_, _-_}
-use mathlib.Core.Path.{_≡_, refl, ap, _∙_}
+use mathlib.Core.Path.{_≡_, refl}
 use native.Mathlib.Omega.{arith}
 use borrow.Author.Needs.{needs}
 use Rattle.influence.specs.Influence.{total, weight, behind}
-use Rattle.influence.specs.Scaled.{scaledSum, apexTop}
-use Rattle.influence.proofs.Steps.{passed, passed-next, passed-cap, behind-passed, top-next}
+use Rattle.influence.specs.Scaled.{top, apexTop}
+use Rattle.influence.proofs.Steps.{passed, passed-next, passed-cap, behind-passed, topOf, top-next}
 use Rattle.influence.proofs.apex_top.Statement.{statement}
 use Rattle.influence.proofs.apex_top.Tie as tie
-use Rattle.influence.proofs.apex_top.Reads as reads
-use Rattle.influence.proofs.apex_top.Lts as lts
-use Rattle.influence.proofs.centimetres.Reads as centimetres-reads
-use Rattle.influence.proofs.half_cm.Reads as half-cm-reads
-use Rattle.influence.proofs.heavier.Reads as heavier-reads
-use Rattle.influence.proofs.sum_at.Reads as sum-at-reads
 
 abbrev Inv-loop : tie.InvT-loop
-Inv-loop base apex axles weights distances top₀ front₀ i₀ top front i =
-    (i ≤ axles) ×
-    (top .0 ≡
-    Rattle.influence.specs.Scaled.top
-    (λ j. scaledSum (base .0) (apex .0) (weight weights) (behind distances) axles (apex .0 + behind distances j))
-    i) ×
-    (front .0 ≡ apex .0 + passed distances i)
+Inv-loop base apex axles weights distances top₀ front₀ j₀ top front j =
+    (j ≤ axles) ×
+    (top .0 ≡ topOf (base .0) (apex .0) (weight weights) (behind distances) axles j) ×
+    (front .0 ≡ apex .0 + passed distances j)
 
 abbrev μ-loop : tie.MeasureT-loop
-μ-loop base apex axles weights distances top₀ front₀ i₀ top front i = axles - i
+μ-loop base apex axles weights distances top₀ front₀ j₀ top front j = axles - j
 
 loop-holds : tie.Need-loop-holds Inv-loop μ-loop
-unfolding Rattle.influence.specs.Scaled.top total
+unfolding top total
 loop-holds c = (omega arith, refl, omega arith)
 
 mul-centimetres : tie.Need-mul-centimetres Inv-loop μ-loop
@@ -44,14 +35,14 @@ centimetres-requires c κs = search needs
 
 half-cm-requires : tie.Need-half-cm-requires Inv-loop μ-loop
 half-cm-requires c κs =
-    omega (arith, c .before .before .before .before .pre .distance (c .before .before .before .loop .i) (omega arith))
+    omega (arith, c .before .before .before .before .pre .distance (c .before .before .before .loop .j) (omega arith))
 
-add-t16 : tie.Need-add-t16 Inv-loop μ-loop
-add-t16 c =
+add-place : tie.Need-add-place Inv-loop μ-loop
+add-place c =
     let at = c .before .before .before .before .before .before in
     record {
       fits =
-          omega (arith, passed-cap (at .before .pre) (at .loop .i) (omega arith), at .before .pre .distance (at .loop .i) (omega arith));
+          omega (arith, passed-cap (at .before .pre) (at .loop .j) (omega arith), at .before .pre .distance (at .loop .j) (omega arith));
     }
 
 sum-at-requires : tie.Need-sum-at-requires Inv-loop μ-loop
@@ -60,8 +51,8 @@ sum-at-requires c κs = c .before .before .before .before .before .before .befor
 heavier-requires : tie.Need-heavier-requires Inv-loop μ-loop
 heavier-requires c κs = search needs
 
-add-i : tie.Need-add-i Inv-loop μ-loop
-add-i c = search needs
+add-j : tie.Need-add-j Inv-loop μ-loop
+add-j c = search needs
 
 loop-less : tie.Need-loop-less Inv-loop μ-loop
 loop-less c = search needs
@@ -69,23 +60,18 @@ loop-less c = search needs
 loop-again : tie.Need-loop-again Inv-loop μ-loop
 loop-again c =
     let at = c .before .before .before .before .before .before .before .before in
-    let start = at .before .args in
-    let over-apex : at .loop .front .0 + c .before .before .before .before .half-cm .result .0 ≡ start .apex .0 + behind (start .distances .now) (at .loop .i) =
-    omega (arith, behind-passed (start .distances .now) (at .loop .i)) in
-    let sum-over-apex =
-    c .before .sum-at .ensures ∙
-    ap (scaledSum (start .base .0) (start .apex .0) (weight (start .weights .now)) (behind (start .distances .now)) (start .axles)) over-apex in (
+    let args = at .before .args in (
       omega arith,
-      c .heavier .ensures ∙
-          top-next (λ j. scaledSum (start .base .0) (start .apex .0) (weight (start .weights .now)) (behind (start .distances .now)) (start .axles) (start .apex .0 + behind (start .distances .now) j))
-          (at .loop .i) (at .loop .inv .1) sum-over-apex,
-      omega (arith, passed-next (start .distances .now) (at .loop .i)),
+      top-next _ _ (weight (args .weights .now)) (behind (args .distances .now)) _ (at .loop .j)
+          (c .heavier .ensures) (at .loop .inv .1) (c .before .sum-at .ensures)
+          (omega (arith, behind-passed (args .distances .now) (at .loop .j))),
+      omega (arith, passed-next (args .distances .now) (at .loop .j)),
     )
 
 returns : tie.Need-returns Inv-loop μ-loop
 unfolding apexTop
 returns c =
-    let ended : c .before .loop .i ≡ c .before .before .args .axles = omega arith in
+    let ended : c .before .loop .j ≡ c .before .before .args .axles = omega arith in
     rw ended at (c .before .loop .inv .1)
 
 pub apex-top-spec : {M : Type 1} → statement M
@@ -99,10 +85,10 @@ apex-top-spec =
     element-copy-out-centimetres
     centimetres-requires
     half-cm-requires
-    add-t16
+    add-place
     sum-at-requires
     heavier-requires
-    add-i
+    add-j
     loop-less
     loop-again
     returns)

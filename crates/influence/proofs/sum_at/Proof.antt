@@ -11,13 +11,6 @@ use Rattle.influence.specs.Scaled.{scaledSum}
 use Rattle.influence.proofs.Steps.{product-fits, passed, passed-next, behind-passed, sum-next, height-cap, sum-cap}
 use Rattle.influence.proofs.sum_at.Statement.{statement}
 use Rattle.influence.proofs.sum_at.Tie as tie
-use Rattle.influence.proofs.sum_at.Reads as reads
-use Rattle.influence.proofs.sum_at.Lts as lts
-use Rattle.influence.proofs.beyond.Reads as beyond-reads
-use Rattle.influence.proofs.centimetres.Reads as centimetres-reads
-use Rattle.influence.proofs.half_cm.Reads as half-cm-reads
-use Rattle.influence.proofs.kgf.Reads as kgf-reads
-use Rattle.influence.proofs.scaled_height.Reads as scaled-height-reads
 
 abbrev Inv-loop : tie.InvT-loop
 Inv-loop base apex axles weights distances sum₀ place₀ i₀ sum place i =
