@@ -72,6 +72,37 @@ same-divisor {U} {P} t =
     let back : U - (U - P) ≡ P = omega arith in
     rw back (mul-comm P (U - P))
 
+module _ {U P : ℕ} (w b : ℕ → ℕ) (n : ℕ) (t : Triangle U P) (last : LastBehind b n) where
+  greatest-at-least : perMetre U (over (scaledGreatest U P w b n) (P * (U - P))) ⊑ greatest U P w b n
+  unfolding greatest scaledGreatest
+  greatest-at-least =
+      of-max (λ m. perMetre U (over m (P * (U - P))) ⊑ greatest U P w b n) _ _
+      (⊑-trans (one-way-sound w b n t) (one-way-at-least w b n t _ refl last) (greater-left _ _))
+      (⊑-trans (one-way-sound w b n (mirrored t)) (one-way-at-least w b n (mirrored t) _ (same-divisor t) last) (greater-right _ _))
+
+  greatest-at-most : greatest U P w b n ⊑ perMetre U (over (scaledGreatest U P w b n) (P * (U - P)))
+  unfolding greatest scaledGreatest
+  greatest-at-most =
+      of-greater (λ c. c ⊑ perMetre U (over (scaledGreatest U P w b n) (P * (U - P))))
+      (one-way-at-most w b n t _ refl (le-max-left _ _))
+      (one-way-at-most w b n (mirrored t) _ (same-divisor t) (le-max-right _ _))
+
+  -- what the code computes is the greatest
+  pub greatest-computed : greatest U P w b n ≐ perMetre U (over (scaledGreatest U P w b n) (P * (U - P)))
+  greatest-computed = record { out = le-antisymm (greatest-at-most .out) (greatest-at-least .out) }
+
+  -- a bound of the whole numbers is one of the fractions
+  pub at-most-greatest : {a : Fraction} → a ⊑ perMetre U (over (scaledGreatest U P w b n) (P * (U - P))) → a ⊑ greatest U P w b n
+  at-most-greatest p = ⊑-trans (perMetre-sound (omega arith) (over-sound _ _ (divisor-above-0 t))) p greatest-at-least
+
+  -- no position gives more, however far off, in either direction of travel
+  pub greatest-bounds : (u : ℕ) → (gives U P w b n u ⊑ greatest U P w b n) × (gives U (U - P) w b n u ⊑ greatest U P w b n)
+  unfolding scaledGreatest
+  greatest-bounds u = (
+    at-most-greatest (one-way-bounds w b n t _ refl (le-max-left _ _) u),
+    at-most-greatest (one-way-bounds w b n (mirrored t) _ (same-divisor t) (le-max-right _ _) u),
+  )
+
 module _ {U P : ℕ} (w b : ℕ → ℕ) (n : ℕ) (t : Triangle U P) where
   pub greatest-sound : Sound (greatest U P w b n)
   unfolding greatest
@@ -85,34 +116,3 @@ module _ {U P : ℕ} (w b : ℕ → ℕ) (n : ℕ) (t : Triangle U P) where
       of-greater
       (λ c. ((u : ℕ) × (c ≡ gives U P w b n u)) ⊎ ((u : ℕ) × (c ≡ gives U (U - P) w b n u)))
       (inl (one-way-given w b n t)) (inr (one-way-given w b n (mirrored t)))
-
-  greatest-at-most : greatest U P w b n ⊑ perMetre U (over (scaledGreatest U P w b n) (P * (U - P)))
-  unfolding greatest scaledGreatest
-  greatest-at-most =
-      of-greater (λ c. c ⊑ perMetre U (over (scaledGreatest U P w b n) (P * (U - P))))
-      (one-way-at-most w b n t _ refl (le-max-left _ _))
-      (one-way-at-most w b n (mirrored t) _ (same-divisor t) (le-max-right _ _))
-
-  module _ (last : LastBehind b n) where
-    greatest-at-least : perMetre U (over (scaledGreatest U P w b n) (P * (U - P))) ⊑ greatest U P w b n
-    unfolding greatest scaledGreatest
-    greatest-at-least =
-        of-max (λ m. perMetre U (over m (P * (U - P))) ⊑ greatest U P w b n) _ _
-        (⊑-trans (one-way-sound w b n t) (one-way-at-least w b n t _ refl last) (greater-left _ _))
-        (⊑-trans (one-way-sound w b n (mirrored t)) (one-way-at-least w b n (mirrored t) _ (same-divisor t) last) (greater-right _ _))
-
-    -- what the code computes is the greatest
-    pub greatest-computed : greatest U P w b n ≐ perMetre U (over (scaledGreatest U P w b n) (P * (U - P)))
-    greatest-computed = record { out = le-antisymm (greatest-at-most .out) (greatest-at-least .out) }
-
-    -- a bound of the whole numbers is one of the fractions
-    pub at-most-greatest : {a : Fraction} → a ⊑ perMetre U (over (scaledGreatest U P w b n) (P * (U - P))) → a ⊑ greatest U P w b n
-    at-most-greatest p = ⊑-trans (perMetre-sound (omega arith) (over-sound _ _ (divisor-above-0 t))) p greatest-at-least
-
-    -- no position gives more, however far off, in either direction of travel
-    pub greatest-bounds : (u : ℕ) → (gives U P w b n u ⊑ greatest U P w b n) × (gives U (U - P) w b n u ⊑ greatest U P w b n)
-    unfolding scaledGreatest
-    greatest-bounds u = (
-      at-most-greatest (one-way-bounds w b n t _ refl (le-max-left _ _) u),
-      at-most-greatest (one-way-bounds w b n (mirrored t) _ (same-divisor t) (le-max-right _ _) u),
-    )

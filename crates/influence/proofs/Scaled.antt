@@ -56,11 +56,11 @@ height-sound {U} {P} s t = go (leb s P)
 
 pub perMetre-mono : (U : ℕ) {a b : Fraction} → a ⊑ b → perMetre U a ⊑ perMetre U b
 unfolding perMetre
-perMetre-mono U p = ÷-mono (over U 2) (·-mono ⊑-refl p)
+perMetre-mono U p = ÷-mono _ (·-mono ⊑-refl p)
 
 pub perMetre-sound : {U : ℕ} {a : Fraction} → 0 < U → Sound a → Sound (perMetre U a)
 unfolding perMetre over whole
-perMetre-sound {U} h s = ÷-sound (over U 2) (·-sound (record { above-0 = omega arith }) s) h
+perMetre-sound h s = ÷-sound _ (·-sound (record { above-0 = omega arith }) s) h
 
 module _ {U P : ℕ} (w b : ℕ → ℕ) (n u : ℕ) (t : Triangle U P) where
   pub axleSum-sound : Sound (axleSum U P w b n u)

@@ -85,6 +85,17 @@ module _ {U P n : ℕ} {ws ds : List ℕ} (h : Bounded U P n ws ds) where
   apex-top-cap =
       of-top (λ m. m ≤ 20000000000000 * n) _ n (omega arith) (λ j l. sum-cap n (P + behind ds j) (omega arith))
 
+  -- the axles ahead of one
+  pub bounded-ahead : (m : ℕ) → m ≤ n → Bounded U P m ws ds
+  bounded-ahead m l =
+      record {
+        triangle = h .triangle;
+        base = h .base;
+        axles = omega arith;
+        weight = λ i k. h .weight i (omega arith);
+        distance = λ i k. h .distance i (omega arith);
+      }
+
   -- the same axles from the other end
   pub mirrored-bounded : Bounded U (U - P) n ws ds
   mirrored-bounded =

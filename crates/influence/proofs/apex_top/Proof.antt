@@ -7,7 +7,7 @@ use native.Mathlib.Omega.{arith}
 use borrow.Author.Needs.{needs}
 use Rattle.influence.specs.Influence.{total, weight, behind}
 use Rattle.influence.specs.Scaled.{top, apexTop}
-use Rattle.influence.proofs.Steps.{passed, passed-next, passed-cap, behind-passed, topOf, top-next}
+use Rattle.influence.proofs.Steps.{passed, passed-next, passed-cap, bounded-ahead, behind-passed, topOf, top-next}
 use Rattle.influence.proofs.apex_top.Statement.{statement}
 use Rattle.influence.proofs.apex_top.Tie as tie
 
@@ -46,7 +46,7 @@ add-place c =
     }
 
 sum-at-requires : tie.Need-sum-at-requires Inv-loop μ-loop
-sum-at-requires c κs = c .before .before .before .before .before .before .before .pre
+sum-at-requires c κs = bounded-ahead (c .before .before .before .before .before .before .before .pre) _ (omega arith)
 
 heavier-requires : tie.Need-heavier-requires Inv-loop μ-loop
 heavier-requires c κs = search needs
