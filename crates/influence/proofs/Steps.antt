@@ -52,12 +52,12 @@ unfolding top
 top-next U P w b n j e t s u = rw (add-one j, e, t, s, u) refl
 
 -- the load's numerator and divisor, multiplied out
+over-same : {n n' d d' : ℕ} → n ≡ n' → d ≡ d' → over n d ≡ over n' d'
+over-same p q = rw (p, q) refl
+
 pub load-over : (U G D : ℕ) {k d : ℕ} → k ≡ 400 * G → d ≡ D * U → over k d ≡ perMetre U (over G D)
 unfolding perMetre over whole _·_ _÷_
-load-over U G D {k} {d} p q =
-    let num : 200 * G * 2 ≡ k = omega arith in
-    let den : 1 * D * U ≡ d = omega arith in
-    rw (num, den) refl
+load-over U G D p q = over-same (omega arith) (omega arith)
 
 pub divisor-cap : (U P : ℕ) → P ≤ U → U ≤ 10000 → P * (U - P) * U ≤ 1000000000000
 divisor-cap U P p h = mul-le-mul {n₂ = 100000000} {m₂ = 10000} (mul-le-mul {n₂ = 10000} {m₂ = 10000} (omega arith) (omega arith)) h
