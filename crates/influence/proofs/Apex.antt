@@ -2,16 +2,13 @@
 -- that these positions give has no axle there and is convex; it would rise for ever, and past the base it is 0.
 -- Assumes nothing.
 use Prim.Native.Nat.{ℕ, zero, suc, _+_, _-_, _*_, _≤_, _<_}
-use mathlib.Core.Path.{_≡_, refl, ap}
-use mathlib.Core.Bool.{true, false}
+use mathlib.Core.Path.{_≡_, ap}
 use mathlib.Core.Logic.{⊎-elim}
 use native.Mathlib.Nat.{eq-or-lt-of-le, mul-comm, zero-mul, zero-sub, sub-eq-zero-of-le, mul-le-mul-left, mul-le-mul-right, lt-of-not-le}
 use native.Mathlib.Decide.{decLe}
 use native.Mathlib.Omega.{arith}
-use lib.Dec.{leb}
 use borrow.Author.Tests.{le-leb, lt-leb}
-use Rattle.influence.specs.Influence.{total}
-use Rattle.influence.specs.Scaled.{top, pick, scaledHeight, scaledSum, apexTop}
+use Rattle.influence.specs.Scaled.{top, scaledHeight, scaledSum, apexTop}
 use Rattle.influence.proofs.Folds.{total-le, total-plus, total-times, top-at}
 
 -- A function that is at most m at 0 and from some place on, and convex wherever it is above m, is at most m everywhere.
@@ -95,7 +92,9 @@ module _ (U P : ℕ) (w b : ℕ → ℕ) (n : ℕ) where
       at : ℕ → ℕ → ℕ
       at u i = w i * scaledHeight U P (u - b i)
 
-      one : (i : ℕ) → 2 * scaledHeight U P (suc v - b i) ≤ scaledHeight U P (v - b i) + scaledHeight U P (suc (suc v) - b i) → 2 * at (suc v) i ≤ at v i + at (suc (suc v)) i
+      one :
+          (i : ℕ) → 2 * scaledHeight U P (suc v - b i) ≤ scaledHeight U P (v - b i) + scaledHeight U P (suc (suc v) - b i) →
+          2 * at (suc v) i ≤ at v i + at (suc (suc v)) i
       one i h = omega (arith, mul-le-mul-left (w i) h)
 
   pub apex-enough : P ≤ U → (m : ℕ) → ((j : ℕ) → j < n → scaledSum U P w b n (P + b j) ≤ m) → (u : ℕ) → scaledSum U P w b n u ≤ m

@@ -1,7 +1,7 @@
 -- Two vehicles coupled load a member by at most the sum of their loads: with the front axle at u the axles of the second vehicle
 -- give what they give alone with its own front axle further back, and a sum rounded up is at most the sum of its parts rounded up.
 -- Assumes nothing.
-use Prim.Native.Nat.{ℕ, zero, suc, _+_, _-_, _*_, _≤_, _<_, max}
+use Prim.Native.Nat.{ℕ, zero, suc, _+_, _-_, _*_, _≤_, _<_}
 use mathlib.Core.Path.{_≡_, refl}
 use mathlib.Core.List.{List}
 use native.Mathlib.Nat.{add-zero, add-suc, add-le-add, sub-add-eq}
@@ -14,7 +14,7 @@ use Rattle.influence.specs.Scaled.{scaledHeight, scaledSum, apexTop, sca
 use Rattle.influence.proofs.Folds.{total-same, total-split, of-top}
 use Rattle.influence.proofs.Apex.{apex-top}
 use Rattle.influence.proofs.Scaled.{over-mono, perMetre-mono}
-use Rattle.influence.proofs.Load.{load-sound, loadOf, load-computed, behind-alike}
+use Rattle.influence.proofs.Load.{load-sound, load-computed, behind-alike}
 
 -- The axles of ws and ds are the first n of ws₁ and ds₁ and after them the first m of ws₂ and ds₂, at any distance.
 pub record Coupled (ws₁ ds₁ : List ℕ) (n : ℕ) (ws₂ ds₂ : List ℕ) (m : ℕ) (ws ds : List ℕ) : Type 0 where

@@ -2,19 +2,21 @@
 -- more than the greatest. On the grid of 1 / k half centimetres every length is k times as many, the positions over the apex are
 -- the old ones, and there the scaled sum is k × k times the old one, as is its divisor.
 -- Assumes nothing.
-use Prim.Native.Nat.{ℕ, zero, suc, _+_, _-_, _*_, _≤_, _<_, max}
+use Prim.Native.Nat.{ℕ, _+_, _-_, _*_, _≤_, _<_}
 use mathlib.Core.Path.{_≡_, refl, _∙_}
 use native.Mathlib.Nat.{le-trans, mul-add, mul-sub, mul-pos, mul-lt-mul-of-pos-left, mul-le-mul-left, mul-le-mul-right, le-max-left, le-max-right}
 use native.Mathlib.Decide.{decLe}
 use native.Mathlib.Omega.{arith}
-use Rattle.section.specs.Fraction.{Fraction, Sound, over, _⊑_}
+use mathlib.Core.List.{List}
+use Rattle.section.specs.Fraction.{over, whole, _⊑_}
 use Rattle.section.proofs.Order.{⊑-trans, ≐-⊑}
-use Rattle.influence.specs.Influence.{Triangle, axleSum, perMetre, greatest}
+use Rattle.influence.specs.Influence.{Triangle, axleSum, perMetre, greatest, weight, behind, vehicleLoad}
 use Rattle.influence.specs.Scaled.{scaledHeight, scaledSum, apexTop, scaledGreatest}
 use Rattle.influence.proofs.Folds.{total-same, total-times, top-at}
 use Rattle.influence.proofs.Apex.{rising-side, falling-side, apex-enough}
-use Rattle.influence.proofs.Scaled.{mirrored, over-sound, over-mono, axleSum-over, perMetre-mono, divisor-above-0}
-use Rattle.influence.proofs.Greatest.{LastBehind, same-divisor, at-most-greatest}
+use Rattle.influence.proofs.Scaled.{mirrored, over-sound, axleSum-over, perMetre-mono, divisor-above-0}
+use Rattle.influence.proofs.Greatest.{LastBehind, behind-last, same-divisor, at-most-greatest}
+use Rattle.influence.proofs.Load.{at-most-load}
 
 -- at the old places every height is k × k times the old one
 height-fine : (k U P s : ℕ) → scaledHeight (k * U) (k * P) (k * s) ≡ k * k * scaledHeight U P s
@@ -68,5 +70,17 @@ pub greatest-bounds-fine :
     (perMetre U (axleSum (k * U) (k * P) w (λ i. k * b i) n u) ⊑ greatest U P w b n) ×
     (perMetre U (axleSum (k * U) (k * (U - P)) w (λ i. k * b i) n u) ⊑ greatest U P w b n)
 unfolding scaledGreatest
-greatest-bounds-fine {U} {P} w b n t last k z u =
-    (at-most-greatest w b n t last (fine-at-most k U P w b n _ _ refl t z (le-max-left _ _) u), at-most-greatest w b n t last (fine-at-most k U (U - P) w b n _ _ (same-divisor t) (mirrored t) z (le-max-right _ _) u))
+greatest-bounds-fine {U} {P} w b n t last k z u = (
+  at-most-greatest w b n t last (fine-at-most k U P w b n _ _ refl t z (le-max-left _ _) u),
+  at-most-greatest w b n t last
+      (fine-at-most k U (U - P) w b n _ _ (same-divisor t) (mirrored t) z (le-max-right _ _) u),
+)
+
+-- nor does any exceed the vehicle load
+pub load-covers-fine :
+    {U P : ℕ} (ws ds : List ℕ) (n : ℕ) → Triangle U P → (k : ℕ) → 0 < k → (u : ℕ) →
+    (perMetre U (axleSum (k * U) (k * P) (weight ws) (λ i. k * behind ds i) n u) ⊑ whole (vehicleLoad U P ws ds n)) ×
+    (perMetre U (axleSum (k * U) (k * (U - P)) (weight ws) (λ i. k * behind ds i) n u) ⊑ whole (vehicleLoad U P ws ds n))
+load-covers-fine ws ds n t k z u =
+    let bounds = greatest-bounds-fine (weight ws) (behind ds) n t (behind-last ds n) k z u in
+    (at-most-load ws ds n t (bounds .0), at-most-load ws ds n t (bounds .1))

@@ -6,7 +6,7 @@ use mathlib.Core.Logic.{_⊎_, ⊎-elim}
 use native.Mathlib.Nat.{add-zero, add-suc, le-dest, le-of-suc-le-suc, not-suc-le-zero, eq-or-lt-of-le, le-refl, le-trans, le-max-left, le-max-right, max-eq-left, max-eq-right, le-of-lt, lt-of-not-le}
 use native.Mathlib.Decide.{decLe}
 use native.Mathlib.Omega.{arith}
-use Rattle.section.specs.Fraction.{Fraction, Sound, over, whole, _⊕_, _⊑_, _≐_, greater}
+use Rattle.section.specs.Fraction.{Fraction, Sound, over, whole, _⊕_, _⊑_, _≐_}
 use Rattle.section.proofs.Order.{⊑-refl, ⊑-trans, ⊕-sound, of-greater, greater-left, greater-right}
 use Rattle.influence.specs.Influence.{total, sum, greatestUpTo}
 use Rattle.influence.specs.Scaled.{top}

@@ -2,20 +2,20 @@
 -- position gives more (Apex) and each of those is among the positions. So it bounds every position, however far off, and
 -- every place between the half centimetres too.
 -- Assumes nothing.
-use Prim.Native.Nat.{ℕ, zero, suc, _+_, _-_, _*_, _≤_, _<_, max}
-use mathlib.Core.Path.{_≡_, refl, ap}
+use Prim.Native.Nat.{ℕ, _+_, _-_, _*_, _≤_, _<_}
+use mathlib.Core.Path.{_≡_, refl}
 use mathlib.Core.Logic.{_⊎_, inl, inr}
-use native.Mathlib.Nat.{le-trans, le-max-left, le-max-right, le-antisymm, mul-comm, mul-pos, mul-le-mul-left}
+use native.Mathlib.Nat.{le-trans, le-max-left, le-max-right, le-antisymm, mul-comm}
 use mathlib.Core.List.{List}
 use lib.ListN.{getD}
 use native.Mathlib.Omega.{arith}
 use Rattle.section.specs.Fraction.{Fraction, Sound, over, whole, _·_, _÷_, _⊑_, _≐_}
 use Rattle.section.proofs.Order.{⊑-trans, ≐-⊑, ≐-⊒, of-greater, greater-left, greater-right}
-use Rattle.influence.specs.Influence.{Triangle, total, axleSum, perMetre, gives, greatestUpTo, greatestOneWay, greatest, behind}
-use Rattle.influence.specs.Scaled.{scaledHeight, scaledSum, apexTop, scaledGreatest}
+use Rattle.influence.specs.Influence.{Triangle, perMetre, gives, greatestOneWay, greatest, behind}
+use Rattle.influence.specs.Scaled.{scaledSum, apexTop, scaledGreatest}
 use Rattle.influence.proofs.Folds.{total-more, of-max, of-top, of-greatest, greatest-at}
-use Rattle.influence.proofs.Apex.{apex-enough, apex-top}
-use Rattle.influence.proofs.Scaled.{mirrored, over-sound, over-mono, axleSum-over, perMetre-mono, perMetre-sound, axleSum-sound, gives-sound, divisor-above-0}
+use Rattle.influence.proofs.Apex.{apex-top}
+use Rattle.influence.proofs.Scaled.{mirrored, over-sound, over-mono, axleSum-over, perMetre-mono, perMetre-sound, gives-sound, divisor-above-0}
 
 -- no axle stands further behind than the last
 abbrev pub LastBehind : (ℕ → ℕ) → ℕ → Type 0

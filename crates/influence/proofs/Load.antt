@@ -1,7 +1,7 @@
 -- The vehicle load covers every position and is less than one unit above the greatest; it is what the code computes; and it
 -- never falls where axles grow heavier or are added behind, since each position then gives at least as much.
 -- Assumes nothing.
-use Prim.Native.Nat.{ℕ, zero, suc, _+_, _-_, _*_, _≤_, _<_, max}
+use Prim.Native.Nat.{ℕ, suc, _+_, _-_, _*_, _≤_, _<_, max}
 use mathlib.Core.Path.{_≡_, refl, ap}
 use mathlib.Core.List.{List}
 use native.Mathlib.Nat.{le-trans, mul-le-mul-right}
@@ -37,13 +37,13 @@ module _ {U P : ℕ} (ws ds : List ℕ) (n : ℕ) (t : Triangle U P) where
   unfolding scaledGreatest
   load-from-tops r g one other = rw (load-computed, r, g, one, other) refl
 
-  -- never below the greatest, and less than one unit above it
+  -- rounded up once: never below the greatest, and less than one unit above it
   pub load-rounded-up : RoundedUp (greatest U P (weight ws) (behind ds) n) (vehicleLoad U P ws ds n)
   unfolding vehicleLoad
   load-rounded-up = rounded-up _ (greatest-sound _ _ n t)
 
-  under : {a : Fraction} → a ⊑ greatest U P (weight ws) (behind ds) n → a ⊑ whole (vehicleLoad U P ws ds n)
-  under p = ⊑-trans (greatest-sound _ _ n t) p (load-rounded-up .never-below)
+  pub at-most-load : {a : Fraction} → a ⊑ greatest U P (weight ws) (behind ds) n → a ⊑ whole (vehicleLoad U P ws ds n)
+  at-most-load p = ⊑-trans (greatest-sound _ _ n t) p (load-rounded-up .never-below)
 
   -- at least what every position gives, however far off, in either direction of travel
   pub load-covers :
@@ -52,10 +52,12 @@ module _ {U P : ℕ} (ws ds : List ℕ) (n : ℕ) (t : Triangle U P) where
       (gives U (U - P) (weight ws) (behind ds) n u ⊑ whole (vehicleLoad U P ws ds n))
   load-covers u =
       let bounds = greatest-bounds (weight ws) (behind ds) n t (behind-last ds n) u in
-      (under (bounds .0), under (bounds .1))
+      (at-most-load (bounds .0), at-most-load (bounds .1))
 
 -- what the code computes never falls where axles grow heavier or are added behind
-module _ (U : ℕ) (w w' b b' : ℕ → ℕ) {n n' : ℕ} (more : n ≤ n') (heavier : (i : ℕ) → i < n → w i ≤ w' i) (alike : (i : ℕ) → i < n → b i ≡ b' i) where
+module _
+    (U : ℕ) (w w' b b' : ℕ → ℕ) {n n' : ℕ} (more : n ≤ n')
+    (heavier : (i : ℕ) → i < n → w i ≤ w' i) (alike : (i : ℕ) → i < n → b i ≡ b' i) where
   sum-grows : (P u : ℕ) → scaledSum U P w b n u ≤ scaledSum U P w' b' n' u
   unfolding scaledSum
   sum-grows P u =

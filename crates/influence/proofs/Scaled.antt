@@ -1,14 +1,14 @@
 -- The code's whole numbers over P × (U - P) are the fractions of the definitions: heights by their two sides, sums axle by
 -- axle.
 -- Assumes nothing.
-use Prim.Native.Nat.{ℕ, zero, suc, _+_, _-_, _*_, _≤_, _<_}
-use mathlib.Core.Path.{_≡_, refl, ap}
+use Prim.Native.Nat.{ℕ, _-_, _*_, _≤_, _<_}
+use mathlib.Core.Path.{ap}
 use mathlib.Core.Bool.{Bool, true, false}
 use native.Mathlib.Nat.{mul-pos, mul-le-mul-right}
 use native.Mathlib.Omega.{arith}
 use lib.Dec.{leb}
-use Rattle.section.specs.Fraction.{Fraction, Sound, over, whole, _·_, _÷_, _⊑_, _≐_, pickFraction}
-use Rattle.section.proofs.Order.{⊑-refl, ⊑-trans, ≐-⊑, ≐-⊒, ·-mono, ÷-mono, ·-sound, ÷-sound}
+use Rattle.section.specs.Fraction.{Fraction, Sound, over, whole, _·_, _⊑_, _≐_, pickFraction}
+use Rattle.section.proofs.Order.{⊑-refl, ·-mono, ÷-mono, ·-sound, ÷-sound}
 use Rattle.influence.specs.Influence.{Triangle, height, axleSum, perMetre, gives}
 use Rattle.influence.specs.Scaled.{pick, scaledHeight, scaledSum}
 use Rattle.influence.proofs.Folds.{sum-over, sum-sound}

@@ -1,7 +1,7 @@
 -- The influence line and the vehicle load: document 01, 'Vehicle load'. Places along the base are whole half centimetres from
 -- the end at which the vehicle comes on; the base is U long and the apex stands at P. Axles are counted from the front, from 0:
 -- axle i weighs w i and stands b i behind the front axle, and there are n.
-use Prim.Native.Nat.{ℕ, zero, suc, _+_, _-_, _*_, _≤_, _<_}
+use Prim.Native.Nat.{ℕ, zero, suc, _+_, _-_, _*_, _<_}
 use mathlib.Core.List.{List}
 use lib.ListN.{getD}
 use lib.Dec.{leb}

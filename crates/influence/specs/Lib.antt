@@ -1,2 +1,3 @@
 pub mod Influence
+pub mod Bounds
 pub mod Scaled

@@ -1,11 +1,9 @@
 -- What the code computes: whole numbers, every height multiplied by P × (U - P). Nothing here has to be believed:
 -- proofs/Greatest.antt ties it to Influence.
-use Prim.Native.Nat.{ℕ, zero, suc, _+_, _-_, _*_, _≤_, _<_, max}
+use Prim.Native.Nat.{ℕ, zero, suc, _+_, _-_, _*_, max}
 use mathlib.Core.Bool.{Bool, true, false}
-use mathlib.Core.List.{List}
-use lib.ListN.{getD}
 use lib.Dec.{leb}
-use Rattle.influence.specs.Influence.{Triangle, total}
+use Rattle.influence.specs.Influence.{total}
 
 -- the greatest of f 0, .., f (n - 1), 0 where n is 0
 unfoldable pub top : (ℕ → ℕ) → ℕ → ℕ
@@ -28,12 +26,3 @@ apexTop U P w b n = top (λ j. scaledSum U P w b n (P + b j)) n
 
 unfoldable pub scaledGreatest : (U P : ℕ) (w b : ℕ → ℕ) (n : ℕ) → ℕ
 scaledGreatest U P w b n = max (apexTop U P w b n) (apexTop U (U - P) w b n)
-
--- What the code's 64 bits are sure to hold: every base and every row of axles that the files allow, and weights of up to 200,000
--- kgf an axle.
-pub record Bounded (U P n : ℕ) (ws ds : List ℕ) : Type 0 where
-  pub triangle : Triangle U P
-  pub base : U ≤ 10000
-  pub axles : n ≤ 16
-  pub weight : (i : ℕ) → i < n → getD ws i 0 ≤ 200000
-  pub distance : (i : ℕ) → i < n → getD ds i 0 ≤ 2000

@@ -1,10 +1,12 @@
 // The influence line: the greatest that a row of axles gives on a triangle, over every position. Only the positions that
 // put an axle over the apex are tried, in both directions of travel; proofs/Apex.antt shows that they are enough.
 ghost use mathlib.Core.Path.{_≡_};
-ghost use Prim.Native.Nat.{_-_, _*_, _≤_, max};
+ghost use Prim.Native.Nat.{_-_, _*_, _≤_, _<_, max};
+ghost use lib.ListN.{getD};
 ghost use Rattle.section.specs.Fraction.{over, ceiling};
 ghost use Rattle.influence.specs.Influence.{Triangle, perMetre, weight, behind, vehicleLoad};
-ghost use Rattle.influence.specs.Scaled.{scaledHeight, scaledSum, apexTop, Bounded};
+ghost use Rattle.influence.specs.Scaled.{scaledHeight, scaledSum, apexTop};
+ghost use Rattle.influence.specs.Bounds.{Bounded};
 use section::Cm;
 use section::Kgf;
 use section::KgfPerM;
@@ -31,6 +33,21 @@ fn kgf(w: u32) -> Kgf
     ensures { λ r. ⌜ r .0 ≡ w ⌝ }
 {
     Kgf(w as u64)
+}
+
+// How far axle i stands behind the axle in front of it.
+fn distance_of(distances: &[u16; 16], i: usize) -> HalfCm
+    requires { ⌜ (i < 16) × (getD (now distances) i 0 ≤ 2000) ⌝ }
+    ensures { λ r. ⌜ r .0 ≡ 2 * getD (now (distances .entry)) i 0 ⌝ }
+{
+    half_cm(centimetres(distances[i]))
+}
+
+fn weight_of(weights: &[u32; 16], i: usize) -> Kgf
+    requires { ⌜ i < 16 ⌝ }
+    ensures { λ r. ⌜ r .0 ≡ getD (now (weights .entry)) i 0 ⌝ }
+{
+    kgf(weights[i])
 }
 
 // How far `a` lies beyond `b`, 0 where it does not.
@@ -74,8 +91,8 @@ fn sum_at(
     let mut place = front;
     let mut i = 0;
     while i < axles {
-        place = beyond(place, half_cm(centimetres(distances[i])));
-        sum += kgf(weights[i]).0 * scaled_height(base, apex, place);
+        place = beyond(place, distance_of(distances, i));
+        sum += weight_of(weights, i).0 * scaled_height(base, apex, place);
         i += 1;
     }
     Kgf(sum)
@@ -96,7 +113,7 @@ fn apex_top(
     let mut front = apex;
     let mut j = 0;
     while j < axles {
-        let place = front.0 + half_cm(centimetres(distances[j])).0;
+        let place = front.0 + distance_of(distances, j).0;
         front = HalfCm(place);
         let sum = sum_at(base, apex, axles, weights, distances, front);
         top = heavier(top, sum);

@@ -1,7 +1,7 @@
 -- `influence::apex_top` meets its contract. The loop's invariant: the top is that of the axles passed, and the front axle stands
 -- beyond the apex by the distances passed, so that the next axle comes to stand over the apex.
 -- Assumes nothing.
-use Prim.Native.Nat.{_≤_, _+_, _*_, _-_}
+use Prim.Native.Nat.{_≤_, _+_, _-_}
 use mathlib.Core.Path.{_≡_, refl}
 use native.Mathlib.Omega.{arith}
 use borrow.Author.Needs.{needs}
@@ -24,29 +24,19 @@ loop-holds : tie.Need-loop-holds Inv-loop μ-loop
 unfolding top total
 loop-holds c = (omega arith, refl, omega arith)
 
-mul-centimetres : tie.Need-mul-centimetres Inv-loop μ-loop
-mul-centimetres c = search needs
-
-element-copy-out-centimetres : tie.Need-element-copy-out-centimetres Inv-loop μ-loop
-element-copy-out-centimetres c = search needs
-
-centimetres-requires : tie.Need-centimetres-requires Inv-loop μ-loop
-centimetres-requires c κs = search needs
-
-half-cm-requires : tie.Need-half-cm-requires Inv-loop μ-loop
-half-cm-requires c κs =
-    omega (arith, c .before .before .before .before .pre .distance (c .before .before .before .loop .j) (omega arith))
+distance-of-requires : tie.Need-distance-of-requires Inv-loop μ-loop
+distance-of-requires c κs = (omega arith, c .before .before .pre .distance (c .before .loop .j) (omega arith))
 
 add-place : tie.Need-add-place Inv-loop μ-loop
 add-place c =
-    let at = c .before .before .before .before .before .before in
+    let at = c .before .before .before .before in
     record {
       fits =
           omega (arith, passed-cap (at .before .pre) (at .loop .j) (omega arith), at .before .pre .distance (at .loop .j) (omega arith));
     }
 
 sum-at-requires : tie.Need-sum-at-requires Inv-loop μ-loop
-sum-at-requires c κs = bounded-ahead (c .before .before .before .before .before .before .before .pre) _ (omega arith)
+sum-at-requires c κs = bounded-ahead (c .before .before .before .before .before .pre) _ (omega arith)
 
 heavier-requires : tie.Need-heavier-requires Inv-loop μ-loop
 heavier-requires c κs = search needs
@@ -59,7 +49,7 @@ loop-less c = search needs
 
 loop-again : tie.Need-loop-again Inv-loop μ-loop
 loop-again c =
-    let at = c .before .before .before .before .before .before .before .before in
+    let at = c .before .before .before .before .before .before in
     let args = at .before .args in (
       omega arith,
       top-next _ _ (weight (args .weights .now)) (behind (args .distances .now)) _ (at .loop .j)
@@ -81,10 +71,7 @@ apex-top-spec =
     Inv-loop
     μ-loop
     loop-holds
-    mul-centimetres
-    element-copy-out-centimetres
-    centimetres-requires
-    half-cm-requires
+    distance-of-requires
     add-place
     sum-at-requires
     heavier-requires

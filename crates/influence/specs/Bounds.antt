@@ -1,0 +1,13 @@
+-- What `vehicle_load` asks of its caller, so that 64 bits hold all it computes. Document 01 allows bases of up to 5000 cm, 1 to 16
+-- axles of up to 60,000 kgf, 2000 cm apart at most; heavier axles are provided for.
+use Prim.Native.Nat.{ℕ, _≤_, _<_}
+use mathlib.Core.List.{List}
+use lib.ListN.{getD}
+use Rattle.influence.specs.Influence.{Triangle}
+
+pub record Bounded (U P n : ℕ) (ws ds : List ℕ) : Type 0 where
+  pub triangle : Triangle U P
+  pub base : U ≤ 10000
+  pub axles : n ≤ 16
+  pub weight : (i : ℕ) → i < n → getD ws i 0 ≤ 200000
+  pub distance : (i : ℕ) → i < n → getD ds i 0 ≤ 2000
