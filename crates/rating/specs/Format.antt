@@ -71,11 +71,15 @@ holds n (x ∷ xs) = eqb n x || holds n xs
 unfoldable pub used : (kind code f : ℕ) → Bool
 used kind code f = not (holds f (unusedByKind kind)) && not (holds f (unusedByCode kind code))
 
--- "Ranges: l 100..5000, d 10..1000, x 1..l−1 (kind 2: 10..1000), h 10..500, q 0..10000, A and B 1..1000", with the kinds,
+-- "x 1..l−1 (kind 2: 10..1000)"
+abbrev pub distanceRange : (kind l : ℕ) → Range
+distanceRange kind l = choose (eqb kind 2) (10 ‥ 1000) (1 ‥ (l - 1))
+
+-- "Ranges: l 100..5000, d 10..1000, x, h 10..500, q 0..10000, A and B 1..1000", with the kinds,
 -- the species and the codes, in the order of the record
 unfoldable pub ranges : (kind code l : ℕ) → List Range
 ranges kind code l =
-    1 ‥ 6 ∷ 1 ‥ 8 ∷ 100 ‥ 5000 ∷ 10 ‥ 1000 ∷ choose (eqb kind 2) (10 ‥ 1000) (1 ‥ (l - 1)) ∷ 10 ‥ 500 ∷ 0 ‥ 10000 ∷ 1 ‥ 4 ∷
+    1 ‥ 6 ∷ 1 ‥ 8 ∷ 100 ‥ 5000 ∷ 10 ‥ 1000 ∷ distanceRange kind l ∷ 10 ‥ 500 ∷ 0 ‥ 10000 ∷ 1 ‥ 4 ∷
     sectionRange code 0 ∷ sectionRange code 1 ∷ sectionRange code 2 ∷ sectionRange code 3 ∷ sectionRange code 4 ∷
     sectionRange code 5 ∷ 1 ‥ 1000 ∷ 1 ‥ 1000 ∷ []
 

@@ -1,0 +1,60 @@
+-- Laws of tests: of a range, of every index below a number, and of the first fault of a row of tests.
+use Prim.Native.Nat.{ℕ, zero, suc, _+_, _≤_, _<_}
+use mathlib.Core.Path.{_≡_, refl, ap, sym, _∙_}
+use mathlib.Core.List.{List, [], _∷_}
+use mathlib.Core.Bool.{Bool, true, false, not, _&&_, _||_}
+use native.Mathlib.Omega.{arith}
+use native.Mathlib.Decide.{decLt}
+use lib.Dec.{eqb, leb}
+use borrow.Author.Tests.{leb-true, le-leb, eqb-true}
+use Rattle.rating.specs.Format.{Range, In, choose}
+use Rattle.files.specs.Reading.{_unless_, firstOf, isIn, all}
+
+pub both : (a b : Bool) → (a && b) ≡ true → (a ≡ true) × (b ≡ true)
+both true b e = (refl, e)
+both false b e = (e, let z : _≡_ {A = ℕ} 0 1 = cc in absurd (omega arith))
+
+pub either : (a b : Bool) → (a || b) ≡ true → a ≡ false → b ≡ true
+either true b e n = let z : _≡_ {A = ℕ} 0 1 = cc in absurd (omega arith)
+either false b e n = e
+
+pub in-range : (r : Range) (n : ℕ) → isIn r n ≡ true → In r n
+in-range r n e = let h = both (leb (r .low) n) (leb n (r .high)) e in (leb-true _ _ (h .0), leb-true _ _ (h .1))
+
+pub range-in : (r : Range) (n : ℕ) → In r n → isIn r n ≡ true
+range-in r n h = rw (le-leb _ _ (h .0)) (le-leb _ _ (h .1))
+
+module _ (test : ℕ → Bool) where
+  -- a test that holds of every index holds of each
+  pub all-at : (n : ℕ) → all test n ≡ true → (i : ℕ) → i < n → test i ≡ true
+  all-at zero e i h = absurd (omega arith)
+  all-at (suc n) e i h = go (decLt i n) (all-at n (both (all test n) (test n) e .0) i)
+    where
+      go : Dec (i < n) → (i < n → test i ≡ true) → test i ≡ true
+      go (yes l) below = below l
+      go (no ge) below = let at : i ≡ n = omega arith in rw at (both (all test n) (test n) e .1)
+
+  pub all-of : (n : ℕ) → ((i : ℕ) → i < n → test i ≡ true) → all test n ≡ true
+  all-of zero h = refl
+  all-of (suc n) h = rw (all-of n (λ i l. h i (omega arith)), h n (omega arith))
+
+  -- a test that fails of one index fails of every index
+  pub all-fails : (n i : ℕ) → i < n → test i ≡ false → all test n ≡ false
+  all-fails n i h e = go (all test n) refl
+    where
+      go : (b : Bool) → all test n ≡ b → all test n ≡ false
+      go false f = f
+      go true t = let at : test i ≡ true = all-at n t i h in let z : _≡_ {A = ℕ} 0 1 = cc in absurd (omega arith)
+
+-- no fault: the test holds
+pub passed : (n : ℕ) (test : Bool) → 0 < n → n unless test ≡ 0 → test ≡ true
+passed n true h e = refl
+passed n false h e = absurd (omega arith)
+
+-- no fault in a row of tests: none at its head, and none after
+pub none : (n : ℕ) (ns : List ℕ) → firstOf (n ∷ ns) ≡ 0 → (n ≡ 0) × (firstOf ns ≡ 0)
+none n ns e = go (eqb n 0) refl e
+  where
+    go : (b : Bool) → eqb n 0 ≡ b → choose b (firstOf ns) n ≡ 0 → (n ≡ 0) × (firstOf ns ≡ 0)
+    go true t f = (eqb-true n 0 t, f)
+    go false t f = (f, let z : eqb n 0 ≡ true = rw f in let z : _≡_ {A = ℕ} 0 1 = cc in absurd (omega arith))

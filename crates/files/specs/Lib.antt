@@ -1,0 +1,5 @@
+pub mod Words
+pub mod Reading
+pub mod SurveyFile
+pub mod VehicleFile
+pub mod Allowed

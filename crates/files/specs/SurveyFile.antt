@@ -1,0 +1,94 @@
+-- Reading a survey file, with the tests in document 01's order. 'Files': "Survey: the letters TBR, u16 version 1, u8 count
+-- 1..64, then per member 16 u16".
+use Prim.Native.Nat.{ℕ, _+_, _-_, _*_}
+use mathlib.Core.List.{List, [], _∷_, _++_}
+use mathlib.Core.Bool.{Bool, not, _&&_, _||_}
+use lib.ListN.{length, replicate}
+use lib.Dec.{eqb, leb}
+use Rattle.rating.specs.declared.record.Member.{Member}
+use Rattle.rating.specs.declared.record.Survey.{Survey}
+use Rattle.rating.specs.Fields.{KIND, SPECIES, SPAN, CODE, MU-A, MU-B, FIELDS, field}
+use Rattle.rating.specs.Format.{_‥_, used, rangeOf, suits}
+use Rattle.files.specs.Words.{byteAt, words, each, marked}
+use Rattle.files.specs.Reading.{_unless_, firstOf, firstFault, isIn, all}
+use Rattle.files.specs.declared.Reading.{Reading}
+use Rattle.files.specs.declared.Reading.the-variants.{Taken, Refused}
+use Rattle.files.specs.declared.SurveyRead.{SurveyRead}
+
+-- the most members of a survey
+abbrev pub MOST-MEMBERS : ℕ
+MOST-MEMBERS = 64
+
+-- TBR, version and count
+abbrev pub SURVEY-HEADER : ℕ
+SURVEY-HEADER = 6
+
+-- 16 u16
+abbrev pub RECORD : ℕ
+RECORD = 32
+
+abbrev pub countOf : List ℕ → ℕ
+countOf bytes = byteAt bytes 5
+
+-- the record of index i, from 0
+abbrev pub recordAt : List ℕ → ℕ → Member
+recordAt bytes i = record { fields = words bytes (SURVEY-HEADER + RECORD * i) 2 FIELDS }
+
+-- "A file shorter than its header gives 1, then 2, 3, 1 are tested"
+unfoldable pub surveyHeader : List ℕ → ℕ
+surveyHeader bytes =
+    firstOf
+    (1 unless leb SURVEY-HEADER (length bytes) ∷
+    2 unless marked bytes 84 66 82 ∷
+    3 unless isIn (1 ‥ MOST-MEMBERS) (countOf bytes) ∷
+    1 unless eqb (length bytes) (SURVEY-HEADER + RECORD * countOf bytes) ∷
+    [])
+
+-- a field is 0 where the record does not use it
+unfoldable pub zeroed : Member → ℕ → Bool
+zeroed m f = used (field m KIND) (field m CODE) f || eqb (field m f) 0
+
+-- a field is in its range where the record uses it
+unfoldable pub within : Member → ℕ → Bool
+within m f = not (used (field m KIND) (field m CODE) f) || isIn (rangeOf (field m KIND) (field m CODE) (field m SPAN) f) (field m f)
+
+-- "4 kind; 5 species, where used; 6 section code does not suit the kind"
+unfoldable pub codeFault : Member → ℕ
+codeFault m =
+    firstOf
+    (4 unless isIn (1 ‥ 6) (field m KIND) ∷
+    5 unless within m SPECIES ∷
+    6 unless suits (field m KIND) (field m CODE) ∷
+    [])
+
+-- "8 an unused field is not 0 (lost area in bending too); 7 a used number outside its range, as A above B"
+unfoldable pub fieldFault : Member → ℕ
+fieldFault m =
+    firstOf (8 unless all (zeroed m) FIELDS ∷ 7 unless (leb (field m MU-A) (field m MU-B) && all (within m) FIELDS) ∷ [])
+
+-- "then the records: in each 4, 5, 6, 8, 7"
+unfoldable pub memberFault : Member → ℕ
+memberFault m = firstOf (codeFault m ∷ fieldFault m ∷ [])
+
+-- the header's fault has place 0, the records' places start at 1
+unfoldable pub surveyAnswer : List ℕ → Reading
+surveyAnswer bytes = firstFault 0 (surveyHeader bytes ∷ each (λ i. memberFault (recordAt bytes i)) (countOf bytes))
+
+abbrev pub blankMember : Member
+blankMember = record { fields = replicate FIELDS 0 }
+
+abbrev pub blankSurvey : Survey
+blankSurvey = record { count = 0; members = replicate MOST-MEMBERS blankMember }
+
+-- the file's records, and blank ones after them
+abbrev pub surveyOf : List ℕ → Survey
+surveyOf bytes =
+    record { count = countOf bytes; members = each (recordAt bytes) (countOf bytes) ++ replicate (MOST-MEMBERS - countOf bytes) blankMember }
+
+-- a refused file gives a blank survey
+abbrev pub surveyBy : Reading → List ℕ → Survey
+surveyBy Taken bytes = surveyOf bytes
+surveyBy (Refused r) bytes = blankSurvey
+
+unfoldable pub readSurvey : List ℕ → SurveyRead
+readSurvey bytes = record { answer = surveyAnswer bytes; survey = surveyBy (surveyAnswer bytes) bytes }

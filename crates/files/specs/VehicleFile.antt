@@ -1,0 +1,89 @@
+-- Reading a vehicle file, with the tests in document 01's order. 'Files': "Vehicle: TBV, u16 version 1, u8 class, u16 track
+-- 100..300, u8 axles 1..16, then per axle u16 weight 1..60000 and u16 distance from the axle in front, 0 for the first,
+-- 1..2000 after."
+use Prim.Native.Nat.{ℕ, _+_, _-_, _*_}
+use mathlib.Core.List.{List, [], _∷_, _++_}
+use mathlib.Core.Bool.{Bool, _&&_}
+use lib.ListN.{length, replicate}
+use lib.Dec.{eqb, leb}
+use Rattle.rating.specs.declared.record.Vehicle.{Vehicle}
+use Rattle.rating.specs.Format.{Range, _‥_, choose}
+use Rattle.files.specs.Words.{byteAt, wordAt, words, each, marked}
+use Rattle.files.specs.Reading.{_unless_, firstOf, firstFault, isIn}
+use Rattle.files.specs.declared.Reading.{Reading}
+use Rattle.files.specs.declared.Reading.the-variants.{Taken, Refused}
+use Rattle.files.specs.declared.VehicleRead.{VehicleRead}
+
+-- the most axles of a vehicle
+abbrev pub MOST-AXLES : ℕ
+MOST-AXLES = 16
+
+-- TBV, version, class, track and axles
+abbrev pub VEHICLE-HEADER : ℕ
+VEHICLE-HEADER = 9
+
+-- weight and distance
+abbrev pub AXLE : ℕ
+AXLE = 4
+
+abbrev pub classOf : List ℕ → ℕ
+classOf bytes = byteAt bytes 5
+
+abbrev pub trackOf : List ℕ → ℕ
+trackOf bytes = wordAt bytes 6
+
+abbrev pub axlesOf : List ℕ → ℕ
+axlesOf bytes = byteAt bytes 8
+
+-- the axle of index i, from 0
+abbrev pub weightAt : List ℕ → ℕ → ℕ
+weightAt bytes i = wordAt bytes (VEHICLE-HEADER + AXLE * i)
+
+abbrev pub distanceAt : List ℕ → ℕ → ℕ
+distanceAt bytes i = wordAt bytes (VEHICLE-HEADER + 2 + AXLE * i)
+
+-- "A file shorter than its header gives 1, then 2, 3, 1 are tested", "0 for class or track, which come first"
+unfoldable pub vehicleHeader : List ℕ → ℕ
+vehicleHeader bytes =
+    firstOf
+    (1 unless leb VEHICLE-HEADER (length bytes) ∷
+    2 unless marked bytes 84 66 86 ∷
+    3 unless isIn (1 ‥ MOST-AXLES) (axlesOf bytes) ∷
+    1 unless eqb (length bytes) (VEHICLE-HEADER + AXLE * axlesOf bytes) ∷
+    7 unless (isIn (0 ‥ 1) (classOf bytes) && isIn (100 ‥ 300) (trackOf bytes)) ∷
+    [])
+
+-- "distance from the axle in front, 0 for the first, 1..2000 after"
+abbrev pub axleRange : ℕ → Range
+axleRange i = choose (eqb i 0) (0 ‥ 0) (1 ‥ 2000)
+
+-- "7 a used number .. outside its range, .. or a first axle's distance other than 0"
+unfoldable pub axleFault : List ℕ → ℕ → ℕ
+axleFault bytes i = 7 unless (isIn (1 ‥ 60000) (weightAt bytes i) && isIn (axleRange i) (distanceAt bytes i))
+
+-- the faults of header, class and track have place 0, the axles' places start at 1
+unfoldable pub vehicleAnswer : List ℕ → Reading
+vehicleAnswer bytes = firstFault 0 (vehicleHeader bytes ∷ each (axleFault bytes) (axlesOf bytes))
+
+abbrev pub blankVehicle : Vehicle
+blankVehicle =
+    record { class = 0; track = 0; axles = 0; weights = replicate MOST-AXLES 0; distances = replicate MOST-AXLES 0 }
+
+-- the file's numbers, and axles of 0 after them
+abbrev pub vehicleOf : List ℕ → Vehicle
+vehicleOf bytes =
+    record
+      { class = classOf bytes
+      ; track = trackOf bytes
+      ; axles = axlesOf bytes
+      ; weights = each (weightAt bytes) (axlesOf bytes) ++ replicate (MOST-AXLES - axlesOf bytes) 0
+      ; distances = each (distanceAt bytes) (axlesOf bytes) ++ replicate (MOST-AXLES - axlesOf bytes) 0
+      }
+
+-- a refused file gives a blank vehicle
+abbrev pub vehicleBy : Reading → List ℕ → Vehicle
+vehicleBy Taken bytes = vehicleOf bytes
+vehicleBy (Refused r) bytes = blankVehicle
+
+unfoldable pub readVehicle : List ℕ → VehicleRead
+readVehicle bytes = record { answer = vehicleAnswer bytes; vehicle = vehicleBy (vehicleAnswer bytes) bytes }

@@ -1,0 +1,27 @@
+-- The numbers of a file. Document 01, 'Files': "Little-endian."
+use Prim.Native.Nat.{ℕ, zero, suc, _+_, _*_}
+use mathlib.Core.List.{List, [], _∷_, _++_}
+use mathlib.Core.Bool.{Bool, _&&_}
+use lib.ListN.{getD}
+use lib.Dec.{eqb}
+
+-- the byte at a place
+abbrev pub byteAt : List ℕ → ℕ → ℕ
+byteAt bytes at = getD bytes at 0
+
+-- the u16 at a place, its low byte first
+abbrev pub wordAt : List ℕ → ℕ → ℕ
+wordAt bytes at = byteAt bytes at + 256 * byteAt bytes (at + 1)
+
+-- f 0, f 1, .. up to f (n - 1)
+abbrev pub each {ℓ} : {X : Type ℓ} → (ℕ → X) → ℕ → List X
+each f zero = []
+each f (suc n) = each f n ++ f n ∷ []
+
+-- the first n words of a row of words that stand `step` bytes apart
+abbrev pub words : List ℕ → (at step n : ℕ) → List ℕ
+words bytes at step n = each (λ i. wordAt bytes (at + step * i)) n
+
+-- the mark of three letters, and version 1
+unfoldable pub marked : List ℕ → (a b c : ℕ) → Bool
+marked bytes a b c = eqb (byteAt bytes 0) a && eqb (byteAt bytes 1) b && eqb (byteAt bytes 2) c && eqb (wordAt bytes 3) 1

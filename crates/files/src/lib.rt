@@ -1,0 +1,33 @@
+// The survey file and the vehicle file: bytes of any length become a survey or a vehicle, or the first fault with its
+// number and place.
+pub mod words;
+pub mod ranges;
+pub mod member;
+pub mod survey;
+pub mod vehicle;
+
+use rating::record::Survey;
+use rating::record::Vehicle;
+
+// A refusal: document 01's number, and the place of the record that has the fault.
+pub struct Refusal {
+    pub number: u64,
+    pub place: u64,
+}
+
+pub enum Reading {
+    Taken,
+    Refused(Refusal),
+}
+
+// The survey is blank where the file is refused.
+pub struct SurveyRead {
+    pub answer: Reading,
+    pub survey: Survey,
+}
+
+// The vehicle is blank where the file is refused.
+pub struct VehicleRead {
+    pub answer: Reading,
+    pub vehicle: Vehicle,
+}
