@@ -1,3 +1,6 @@
 pub mod Each
 pub mod Tests
 pub mod Tables
+pub mod Faults
+pub mod Members
+pub mod Surveys

@@ -3,14 +3,16 @@
 use Prim.Native.Nat.{ℕ, zero, suc, _+_, _-_, _*_, _≤_, _<_}
 use mathlib.Core.Path.{_≡_, refl, ap, sym, _∙_}
 use mathlib.Core.List.{List, [], _∷_}
-use mathlib.Core.Bool.{Bool, true, false, not, _&&_, _||_, Bool·beq, and-true}
+use mathlib.Core.Bool.{Bool, true, false, not, _&&_, _||_, Bool·beq, and-true, Bool·not-not}
 use native.Mathlib.Omega.{arith}
 use lib.ListN.{getD}
 use lib.Dec.{eqb, leb}
 use borrow.Author.Tests.{eqb-true, ne-eqb, lt-leb, eq-eqb, le-leb}
-use Rattle.rating.specs.Fields.{SPECIES}
-use Rattle.rating.specs.Format.{Range, _‥_, In, choose, used, unusedByKind, unusedByCode, holds, rangeOf, suits, bending}
-use Rattle.files.specs.Reading.{all}
+use Rattle.rating.specs.declared.record.Member.{Member}
+use Rattle.rating.specs.Fields.{KIND, SPECIES, CODE, field}
+use Rattle.rating.specs.Format.{Range, _‥_, In, choose, used, unusedByKind, unusedByCode, holds, rangeOf, ranges, suits, bending}
+use Rattle.files.specs.Reading.{all, isIn}
+use Rattle.files.specs.SurveyFile.{within}
 use Rattle.files.proofs.Tests.{all-at, both, either}
 
 -- a code that suits a kind is one of the four
@@ -21,6 +23,7 @@ suits-code kind code e = go (bending kind) (eqb kind 3) (eqb kind 4) e
     sawn : (b : Bool) → eqb code 1 ≡ b → (b || eqb code 2) ≡ true → In (1 ‥ 4) code
     sawn true t f = let h : code ≡ 1 = eqb-true code 1 t in omega arith
     sawn false t f = let h : code ≡ 2 = eqb-true code 2 f in omega arith
+
     go : (a b c : Bool) → choose a (eqb code 1 || eqb code 2) (choose b (eqb code 2) (choose c (eqb code 3) (eqb code 4))) ≡ true → In (1 ‥ 4) code
     go true b c f = sawn (eqb code 1) refl f
     go false true c f = let h : code ≡ 2 = eqb-true code 2 f in omega arith
@@ -93,3 +96,8 @@ species-by-kind kind h = same _ _ (all-at (λ k. Bool·beq (holds SPECIES (unuse
 pub species-used : (kind code : ℕ) → In (1 ‥ 6) kind → used kind code SPECIES ≡ not (eqb kind 6)
 unfolding used
 species-used kind code h = rw (species-by-code kind code, species-by-kind kind (omega arith)) (and-true _)
+
+-- the species is looked at in every kind but 6
+pub species-test : (m : Member) → In (1 ‥ 6) (field m KIND) → within m SPECIES ≡ (eqb (field m KIND) 6 || isIn (1 ‥ 8) (field m SPECIES))
+unfolding within rangeOf ranges
+species-test m h = rw (species-used (field m KIND) (field m CODE) h, Bool·not-not (eqb (field m KIND) 6))

@@ -6,7 +6,7 @@ use mathlib.Core.Bool.{Bool, true, false, not, _&&_, _||_}
 use native.Mathlib.Omega.{arith}
 use native.Mathlib.Decide.{decLt}
 use lib.Dec.{eqb, leb}
-use borrow.Author.Tests.{leb-true, le-leb, eqb-true}
+use borrow.Author.Tests.{leb-true, le-leb, eqb-true, not-true, not-false}
 use Rattle.rating.specs.Format.{Range, In, choose}
 use Rattle.files.specs.Reading.{_unless_, firstOf, isIn, all}
 
@@ -58,3 +58,10 @@ none n ns e = go (eqb n 0) refl e
     go : (b : Bool) → eqb n 0 ≡ b → choose b (firstOf ns) n ≡ 0 → (n ≡ 0) × (firstOf ns ≡ 0)
     go true t f = (eqb-true n 0 t, f)
     go false t f = (f, let z : eqb n 0 ≡ true = rw f in let z : _≡_ {A = ℕ} 0 1 = cc in absurd (omega arith))
+
+-- a callee's answer, tested by `!`
+pub fails : {answer test : Bool} → answer ≡ test → not answer ≡ true → test ≡ false
+fails {answer} e t = sym e ∙ not-true answer t
+
+pub holds : {answer test : Bool} → answer ≡ test → not answer ≡ false → test ≡ true
+holds {answer} e t = sym e ∙ not-false answer t

@@ -39,7 +39,7 @@ unfoldable pub surveyHeader : List ℕ → ℕ
 surveyHeader bytes =
     firstOf
     (1 unless leb SURVEY-HEADER (length bytes) ∷
-    2 unless marked bytes 84 66 82 ∷
+    2 unless marked bytes 82 ∷
     3 unless isIn (1 ‥ MOST-MEMBERS) (countOf bytes) ∷
     1 unless eqb (length bytes) (SURVEY-HEADER + RECORD * countOf bytes) ∷
     [])

@@ -47,7 +47,7 @@ unfoldable pub vehicleHeader : List ℕ → ℕ
 vehicleHeader bytes =
     firstOf
     (1 unless leb VEHICLE-HEADER (length bytes) ∷
-    2 unless marked bytes 84 66 86 ∷
+    2 unless marked bytes 86 ∷
     3 unless isIn (1 ‥ MOST-AXLES) (axlesOf bytes) ∷
     1 unless eqb (length bytes) (VEHICLE-HEADER + AXLE * axlesOf bytes) ∷
     7 unless (isIn (0 ‥ 1) (classOf bytes) && isIn (100 ‥ 300) (trackOf bytes)) ∷
@@ -72,13 +72,13 @@ blankVehicle =
 -- the file's numbers, and axles of 0 after them
 abbrev pub vehicleOf : List ℕ → Vehicle
 vehicleOf bytes =
-    record
-      { class = classOf bytes
-      ; track = trackOf bytes
-      ; axles = axlesOf bytes
-      ; weights = each (weightAt bytes) (axlesOf bytes) ++ replicate (MOST-AXLES - axlesOf bytes) 0
-      ; distances = each (distanceAt bytes) (axlesOf bytes) ++ replicate (MOST-AXLES - axlesOf bytes) 0
-      }
+    record {
+      class = classOf bytes;
+      track = trackOf bytes;
+      axles = axlesOf bytes;
+      weights = each (weightAt bytes) (axlesOf bytes) ++ replicate (MOST-AXLES - axlesOf bytes) 0;
+      distances = each (distanceAt bytes) (axlesOf bytes) ++ replicate (MOST-AXLES - axlesOf bytes) 0;
+    }
 
 -- a refused file gives a blank vehicle
 abbrev pub vehicleBy : Reading → List ℕ → Vehicle

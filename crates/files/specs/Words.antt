@@ -22,6 +22,6 @@ each f (suc n) = each f n ++ f n ∷ []
 abbrev pub words : List ℕ → (at step n : ℕ) → List ℕ
 words bytes at step n = each (λ i. wordAt bytes (at + step * i)) n
 
--- the mark of three letters, and version 1
-unfoldable pub marked : List ℕ → (a b c : ℕ) → Bool
-marked bytes a b c = eqb (byteAt bytes 0) a && eqb (byteAt bytes 1) b && eqb (byteAt bytes 2) c && eqb (wordAt bytes 3) 1
+-- the letters TB and a third one, and version 1
+unfoldable pub marked : List ℕ → (letter : ℕ) → Bool
+marked bytes letter = eqb (byteAt bytes 0) 84 && eqb (byteAt bytes 1) 66 && eqb (byteAt bytes 2) letter && eqb (wordAt bytes 3) 1

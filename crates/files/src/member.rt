@@ -1,6 +1,13 @@
 // The faults of a member's record.
-use crate::ranges::{inside, is_used, limits_of, suits_kind};
-use rating::record::{Member, CODE, KIND, SPAN, SPECIES};
+use crate::ranges::inside;
+use crate::ranges::is_used;
+use crate::ranges::limits_of;
+use crate::ranges::suits_kind;
+use rating::record::CODE;
+use rating::record::KIND;
+use rating::record::Member;
+use rating::record::SPAN;
+use rating::record::SPECIES;
 ghost use mathlib.Core.Path.{_≡_};
 ghost use mathlib.Core.Bool.{true, _||_};
 ghost use lib.Dec.{eqb};

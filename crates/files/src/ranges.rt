@@ -1,5 +1,7 @@
 // The tables of document 01: which section suits a kind, which fields a record uses, and the ranges of those.
-use rating::record::{DISTANCE, S1, S6};
+use rating::record::DISTANCE;
+use rating::record::S1;
+use rating::record::S6;
 ghost use mathlib.Core.Path.{_≡_};
 ghost use mathlib.Core.Bool.{true};
 ghost use Prim.Native.Nat.{_≤_, _<_};
@@ -10,40 +12,247 @@ ghost use Rattle.files.specs.Reading.{isIn};
 // The fields that a kind uses, a row for each kind from 1: lost area counts for nothing in bending.
 //    kind, species, l, d, x, h, q, code, s1 to s6, A, B
 const BY_KIND: [u8; 96] = [
-    1, 1, 1, 1, 0, 0, 1, 1, 1, 1, 1, 1, 1, 0, 0, 0, //
-    1, 1, 1, 0, 1, 0, 1, 1, 1, 1, 1, 1, 1, 0, 0, 0, //
-    1, 1, 1, 1, 1, 1, 1, 1, 1, 1, 1, 1, 1, 1, 0, 0, //
-    1, 1, 1, 1, 1, 1, 1, 1, 1, 1, 1, 1, 1, 1, 1, 1, //
-    1, 1, 1, 1, 1, 1, 1, 1, 1, 1, 1, 1, 1, 1, 1, 1, //
-    1, 0, 1, 1, 1, 1, 1, 1, 1, 1, 1, 1, 1, 1, 1, 1, //
+    1,
+    1,
+    1,
+    1,
+    0,
+    0,
+    1,
+    1,
+    1,
+    1,
+    1,
+    1,
+    1,
+    0,
+    0,
+    0, //
+    1,
+    1,
+    1,
+    0,
+    1,
+    0,
+    1,
+    1,
+    1,
+    1,
+    1,
+    1,
+    1,
+    0,
+    0,
+    0, //
+    1,
+    1,
+    1,
+    1,
+    1,
+    1,
+    1,
+    1,
+    1,
+    1,
+    1,
+    1,
+    1,
+    1,
+    0,
+    0, //
+    1,
+    1,
+    1,
+    1,
+    1,
+    1,
+    1,
+    1,
+    1,
+    1,
+    1,
+    1,
+    1,
+    1,
+    1,
+    1, //
+    1,
+    1,
+    1,
+    1,
+    1,
+    1,
+    1,
+    1,
+    1,
+    1,
+    1,
+    1,
+    1,
+    1,
+    1,
+    1, //
+    1,
+    0,
+    1,
+    1,
+    1,
+    1,
+    1,
+    1,
+    1,
+    1,
+    1,
+    1,
+    1,
+    1,
+    1,
+    1, //
 ];
 
 // The fields that a section code uses, a row for each code from 1.
 const BY_CODE: [u8; 64] = [
-    1, 1, 1, 1, 1, 1, 1, 1, 1, 1, 1, 0, 0, 0, 1, 1, //
-    1, 1, 1, 1, 1, 1, 1, 1, 1, 1, 1, 1, 1, 1, 1, 1, //
-    1, 1, 1, 1, 1, 1, 1, 1, 1, 1, 1, 1, 1, 1, 1, 1, //
-    1, 1, 1, 1, 1, 1, 1, 1, 1, 1, 0, 0, 0, 0, 1, 1, //
+    1,
+    1,
+    1,
+    1,
+    1,
+    1,
+    1,
+    1,
+    1,
+    1,
+    1,
+    0,
+    0,
+    0,
+    1,
+    1, //
+    1,
+    1,
+    1,
+    1,
+    1,
+    1,
+    1,
+    1,
+    1,
+    1,
+    1,
+    1,
+    1,
+    1,
+    1,
+    1, //
+    1,
+    1,
+    1,
+    1,
+    1,
+    1,
+    1,
+    1,
+    1,
+    1,
+    1,
+    1,
+    1,
+    1,
+    1,
+    1, //
+    1,
+    1,
+    1,
+    1,
+    1,
+    1,
+    1,
+    1,
+    1,
+    1,
+    0,
+    0,
+    0,
+    0,
+    1,
+    1, //
 ];
 
 // The ranges of the fields that no code and no kind changes; 0 for the others.
 const LOW: [u16; 16] = [1, 1, 100, 10, 0, 10, 0, 1, 0, 0, 0, 0, 0, 0, 1, 1];
 
-const HIGH: [u16; 16] = [6, 8, 5000, 1000, 0, 500, 10000, 4, 0, 0, 0, 0, 0, 0, 1000, 1000];
+const HIGH: [u16; 16] = [
+    6,
+    8,
+    5000,
+    1000,
+    0,
+    500,
+    10000,
+    4,
+    0,
+    0,
+    0,
+    0,
+    0,
+    0,
+    1000,
+    1000,
+];
 
 // The ranges of s1 to s6, a row for each code from 1.
 const SECTION_LOW: [u16; 24] = [
-    13, 0, 1, 0, 0, 0, //
-    1, 1, 0, 0, 1, 0, //
-    1, 1, 1, 1, 0, 1, //
-    1, 0, 0, 0, 0, 0, //
+    13,
+    0,
+    1,
+    0,
+    0,
+    0, //
+    1,
+    1,
+    0,
+    0,
+    1,
+    0, //
+    1,
+    1,
+    1,
+    1,
+    0,
+    1, //
+    1,
+    0,
+    0,
+    0,
+    0,
+    0, //
 ];
 
 const SECTION_HIGH: [u16; 24] = [
-    39, 60, 3, 0, 0, 0, //
-    60, 60, 60, 60, 40, 10000, //
-    3, 60, 60, 60, 60, 200, //
-    10000, 10000, 0, 0, 0, 0, //
+    39,
+    60,
+    3,
+    0,
+    0,
+    0, //
+    60,
+    60,
+    60,
+    60,
+    40,
+    10000, //
+    3,
+    60,
+    60,
+    60,
+    60,
+    200, //
+    10000,
+    10000,
+    0,
+    0,
+    0,
+    0, //
 ];
 
 pub struct Limits {
@@ -116,7 +325,10 @@ fn distance_limits(kind: u16, span: u16) -> Limits
     ensures { λ r. ⌜ (r .low ≡ distanceRange kind span .low) × (r .high ≡ distanceRange kind span .high) ⌝ }
 {
     if kind == 2 {
-        return Limits { low: 10, high: 1000 };
+        return Limits {
+            low: 10,
+            high: 1000,
+        };
     }
     if span == 0 {
         return Limits { low: 1, high: 0 };

@@ -1,1 +1,147 @@
-// 
+// Reading a survey file: the header's tests, then the first fault in record order, then the records.
+use crate::Reading;
+use crate::Refusal;
+use crate::SurveyRead;
+use crate::member::code_fault;
+use crate::member::is_within;
+use crate::member::is_zeroed;
+use crate::ranges::inside;
+use crate::words::is_marked;
+use crate::words::wide;
+use crate::words::words;
+use rating::record::MU_A;
+use rating::record::MU_B;
+use rating::record::Member;
+use rating::record::Survey;
+ghost use mathlib.Core.Path.{_≡_};
+ghost use mathlib.Core.List.{_++_};
+ghost use Prim.Native.Nat.{_+_, _-_, _*_, _≤_, _<_};
+ghost use lib.ListN.{length, replicate};
+ghost use Rattle.files.specs.Words.{each};
+ghost use Rattle.files.specs.Reading.{firstFault};
+ghost use Rattle.files.specs.SurveyFile.{MOST-MEMBERS, SURVEY-HEADER, RECORD, recordAt, surveyHeader, memberFault, blankMember, blankSurvey, readSurvey};
+
+// The letters, the version and the count.
+const HEADER: usize = 6;
+
+// Sixteen words.
+const RECORD: usize = 32;
+
+const FIELDS: usize = 16;
+
+const MOST_MEMBERS: u16 = 64;
+
+// The header's fault: 1 shorter than the header, 2 mark or version, 3 count, 1 length; or 0.
+fn survey_header(bytes: &[u8]) -> u64
+    ensures { λ r. ⌜ r ≡ surveyHeader (now (bytes .entry)) ⌝ }
+{
+    if bytes.len() < HEADER {
+        return 1;
+    }
+    if !is_marked(bytes, b'R') {
+        return 2;
+    }
+    let count = wide(bytes[5]);
+    if !inside(1, MOST_MEMBERS, count) {
+        return 3;
+    }
+    if bytes.len() != HEADER + RECORD * (count as usize) {
+        return 1;
+    }
+    0
+}
+
+fn record_at(bytes: &[u8], i: usize) -> Member
+    requires { ⌜ SURVEY-HEADER + RECORD * (i + 1) ≤ length (now bytes) ⌝ }
+    ensures { λ r. ⌜ r ≡ recordAt (now (bytes .entry)) i ⌝ }
+{
+    let fields = words(bytes, HEADER + RECORD * i, 2, FIELDS);
+    Member { fields }
+}
+
+// The first fault in record order, with its place. A number outside its range waits until every field was seen to be 0
+// where it is unused: 8 goes before 7.
+fn first_fault(bytes: &[u8], count: usize) -> Reading
+    requires { ⌜ SURVEY-HEADER + RECORD * count ≤ length (now bytes) ⌝ }
+    ensures { λ r. ⌜ r ≡ firstFault 1 (each (λ i. memberFault (recordAt (now (bytes .entry)) i)) count) ⌝ }
+{
+    let mut answer = Reading::Taken;
+    let mut i: usize = 0;
+    'records: while i < count {
+        let m = record_at(bytes, i);
+        let place = (i + 1) as u64;
+        let number = code_fault(m);
+        if number != 0 {
+            answer = Reading::Refused(Refusal { number, place });
+            break 'records;
+        }
+        let mut good = m.fields[MU_A] <= m.fields[MU_B];
+        let mut f: usize = 0;
+        while f < FIELDS {
+            if !is_zeroed(m, f) {
+                answer = Reading::Refused(Refusal { number: 8, place });
+                break 'records;
+            }
+            good = good & is_within(m, f);
+            f += 1;
+        }
+        if !good {
+            answer = Reading::Refused(Refusal { number: 7, place });
+            break 'records;
+        }
+        i += 1;
+    }
+    answer
+}
+
+fn blank_member() -> Member
+    ensures { λ r. ⌜ r ≡ blankMember ⌝ }
+{
+    Member { fields: [0u16; 16] }
+}
+
+// The records, and blank ones after them.
+fn members_of(bytes: &[u8], count: usize) -> [Member; 64]
+    requires { ⌜ (count ≤ MOST-MEMBERS) × (SURVEY-HEADER + RECORD * count ≤ length (now bytes)) ⌝ }
+    ensures { λ r. ⌜ r ≡ each (recordAt (now (bytes .entry))) count ++ replicate (MOST-MEMBERS - count) blankMember ⌝ }
+{
+    let blank = blank_member();
+    let mut members = [blank; 64];
+    let mut i: usize = 0;
+    while i < count {
+        members[i] = record_at(bytes, i);
+        i += 1;
+    }
+    members
+}
+
+fn refused(answer: Reading) -> SurveyRead
+    ensures { λ r. ⌜ (r .answer ≡ answer) × (r .survey ≡ blankSurvey) ⌝ }
+{
+    let blank = blank_member();
+    let survey = Survey {
+        count: 0,
+        members: [blank; 64],
+    };
+    SurveyRead { answer, survey }
+}
+
+// A survey file of any length: the survey, or the first fault.
+pub fn read_survey(bytes: &[u8]) -> SurveyRead
+    ensures { λ r. ⌜ r ≡ readSurvey (now (bytes .entry)) ⌝ }
+{
+    let number = survey_header(bytes);
+    if number != 0 {
+        return refused(Reading::Refused(Refusal { number, place: 0 }));
+    }
+    let count = wide(bytes[5]) as usize;
+    let answer = first_fault(bytes, count);
+    match answer {
+        Reading::Taken => {
+            let members = members_of(bytes, count);
+            let survey = Survey { count, members };
+            SurveyRead { answer, survey }
+        }
+        Reading::Refused(_) => refused(answer),
+    }
+}

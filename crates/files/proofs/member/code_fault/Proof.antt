@@ -1,51 +1,52 @@
+-- `code_fault` meets its contract: the tests that led to each answer say which of `codeFault`'s failed first.
 use borrow.Author.Needs.{needs}
+use Rattle.files.specs.SurveyFile.{codeFault}
+use Rattle.files.proofs.Tests.{fails, holds, in-range}
+use Rattle.files.proofs.Tables.{species-test}
 use Rattle.files.proofs.member.code_fault.Statement.{statement}
 use Rattle.files.proofs.member.code_fault.Tie as tie
-use Rattle.files.proofs.member.code_fault.Reads as reads
-use Rattle.files.proofs.member.code_fault.Lts as lts
-use Rattle.files.proofs.member.species_within.Reads as species-within-reads
-use Rattle.files.proofs.ranges.inside.Reads as inside-reads
-use Rattle.files.proofs.ranges.suits_kind.Reads as suits-kind-reads
 
--- src/member.rt:20:16
+-- `code_fault` meets its contract: the tests that led to each answer say which of `codeFault`'s failed first.
+
 element-copy-out-kind : tie.Need-element-copy-out-kind
 element-copy-out-kind c = search needs
 
--- src/member.rt:21:19
 element-copy-out-species : tie.Need-element-copy-out-species
 element-copy-out-species c = search needs
 
--- src/member.rt:22:16
 element-copy-out-code : tie.Need-element-copy-out-code
 element-copy-out-code c = search needs
 
--- src/member.rt:23:9
 inside-requires : tie.Need-inside-requires
 inside-requires c κs = search needs
 
--- src/member.rt:24:9
 returns : tie.Need-returns
-returns c = ?
+unfolding codeFault
+returns c = rw (fails (c .before .inside .ensures) (c .if1 .taken))
 
--- src/member.rt:26:9
 species-within-requires : tie.Need-species-within-requires
 species-within-requires c κs = search needs
 
--- src/member.rt:27:9
 returns-2 : tie.Need-returns-2
-returns-2 c = ?
+unfolding codeFault
+returns-2 c =
+    let kind = holds (c .before .before .before .inside .ensures) (c .before .before .if1 .left) in
+    rw (kind, species-test _ (in-range _ _ kind), fails (c .before .species-within .ensures) (c .if2 .taken))
 
--- src/member.rt:29:9
 suits-kind-requires : tie.Need-suits-kind-requires
 suits-kind-requires c κs = search needs
 
--- src/member.rt:30:9
 returns-3 : tie.Need-returns-3
-returns-3 c = ?
+unfolding codeFault
+returns-3 c =
+    let kind = holds (c .before .before .before .before .before .inside .ensures) (c .before .before .before .before .if1 .left) in
+    rw (kind, species-test _ (in-range _ _ kind), holds (c .before .before .before .species-within .ensures) (c .before .before .if2 .left), fails (c .before .suits-kind .ensures) (c .if3 .taken))
 
--- src/member.rt:17:1
 returns-4 : tie.Need-returns-4
-returns-4 c = ?
+unfolding codeFault
+returns-4 c =
+    let kind = holds (c .before .before .before .before .before .inside .ensures) (c .before .before .before .before .if1 .left) in
+    rw (kind, species-test _ (in-range _ _ kind), holds (c .before .before .before .species-within .ensures) (c .before .before .if2 .left), holds (c .before .suits-kind .ensures) (c .if3 .left))
 
 pub code-fault-spec : {M : Type 1} → statement M
 code-fault-spec =

@@ -1,0 +1,54 @@
+-- Laws of `firstFault` over the list of a file's faults by place. While none was met the list from the next place on is left;
+-- the first number that is not 0 is the answer, with its place.
+use Prim.Native.Nat.{ℕ, zero, suc, _+_, _≤_, _<_}
+use mathlib.Core.Path.{_≡_, refl, ap, sym, _∙_}
+use mathlib.Core.List.{List, [], _∷_, _++_}
+use mathlib.Core.Bool.{Bool, true, false}
+use native.Mathlib.Numerals.{add-one}
+use native.Mathlib.Nat.{add-zero, add-suc, suc-add}
+use native.Mathlib.Omega.{arith}
+use lib.ListN.{length}
+use lib.Dec.{eqb}
+use borrow.Author.Tests.{eqb-true, eq-eqb, ne-eqb}
+use Rattle.rating.specs.Format.{choose}
+use Rattle.files.specs.Words.{each}
+use Rattle.files.specs.Reading.{firstFault, numberOf, placeOf}
+use Rattle.files.specs.declared.Reading.{Reading}
+use Rattle.files.specs.declared.Reading.the-variants.{Taken, Refused}
+use Rattle.files.proofs.Each.{each-split, length-each}
+
+-- the answer for a fault at a place
+abbrev pub refusal : (number place : ℕ) → Reading
+refusal number place = Refused (record { number = number; place = place })
+
+refused-not : (number place : ℕ) → refusal number place ≡ Taken → ⊥
+refused-not number place e = let z : _≡_ {A = ℕ} 0 1 = cc in omega arith
+
+-- where the first of a list have no fault, the rest decide
+pub skip : (place : ℕ) (ns rest : List ℕ) → firstFault place ns ≡ Taken → firstFault place (ns ++ rest) ≡ firstFault (place + length ns) rest
+skip place [] rest e = rw add-zero
+skip place (n ∷ ns) rest e = go (eqb n 0) e (skip (suc place) ns rest)
+  where
+    go : (b : Bool) → choose b (firstFault (suc place) ns) (refusal n place) ≡ Taken → (firstFault (suc place) ns ≡ Taken → firstFault (suc place) (ns ++ rest) ≡ firstFault (suc place + length ns) rest) → choose b (firstFault (suc place) (ns ++ rest)) (refusal n place) ≡ firstFault (place + suc (length ns)) rest
+    go true t more = let step : place + suc (length ns) ≡ suc place + length ns = omega arith in rw step (more t)
+    go false t more = absurd (refused-not n place t)
+
+module _ (fault : ℕ → ℕ) (place : ℕ) where
+  -- one more without a fault
+  pub clear-more : (i : ℕ) → firstFault place (each fault i) ≡ Taken → fault i ≡ 0 → firstFault place (each fault (i + 1)) ≡ Taken
+  clear-more i e h = rw add-one (skip place (each fault i) (fault i ∷ []) e ∙ rw h)
+
+  -- the first fault
+  pub fault-at : (i n number : ℕ) → i < n → firstFault place (each fault i) ≡ Taken → fault i ≡ number → (number ≡ 0 → ⊥) → firstFault place (each fault n) ≡ refusal number (i + place)
+  fault-at i n number l e at h =
+      let split = each-split fault i n l in
+      let there : place + i ≡ i + place = omega arith in
+      rw (split .1, skip place (each fault i) (fault i ∷ split .0) e, length-each fault i, there, at, ne-eqb number 0 h)
+
+-- no fault in a list: none at its head, and none after
+taken-cons : (place n : ℕ) (ns : List ℕ) → firstFault place (n ∷ ns) ≡ Taken → (n ≡ 0) × (firstFault (suc place) ns ≡ Taken)
+taken-cons place n ns e = go (eqb n 0) refl e
+  where
+    go : (b : Bool) → eqb n 0 ≡ b → choose b (firstFault (suc place) ns) (refusal n place) ≡ Taken → (n ≡ 0) × (firstFault (suc place) ns ≡ Taken)
+    go true t f = (eqb-true n 0 t, f)
+    go false t f = absurd (refused-not n place f)
