@@ -2,5 +2,6 @@ pub mod Each
 pub mod Tests
 pub mod Tables
 pub mod Faults
+pub mod Headers
 pub mod Members
 pub mod Surveys

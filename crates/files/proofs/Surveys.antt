@@ -18,33 +18,6 @@ use Rattle.files.specs.declared.SurveyRead.{SurveyRead}
 use Rattle.files.proofs.Faults.{refusal}
 use Rattle.files.proofs.Tests.{in-range, range-in, passed, none}
 
--- what a header without a fault says
-pub record Headed (bytes : List ℕ) : Type 0 where
-  pub marks : marked bytes 82 ≡ true
-  pub count : In (1 ‥ MOST-MEMBERS) (countOf bytes)
-  pub size : length bytes ≡ SURVEY-HEADER + RECORD * countOf bytes
-
-pub headed : (bytes : List ℕ) → surveyHeader bytes ≡ 0 → Headed bytes
-unfolding surveyHeader
-headed bytes e =
-    let long = leb SURVEY-HEADER (length bytes) in
-    let counted = isIn (1 ‥ MOST-MEMBERS) (countOf bytes) in
-    let sized = eqb (length bytes) (SURVEY-HEADER + RECORD * countOf bytes) in
-    let first = none (1 unless long) (2 unless marked bytes 82 ∷ 3 unless counted ∷ 1 unless sized ∷ []) e in
-    let second = none (2 unless marked bytes 82) (3 unless counted ∷ 1 unless sized ∷ []) (first .1) in
-    let third = none (3 unless counted) (1 unless sized ∷ []) (second .1) in
-    let fourth = none (1 unless sized) [] (third .1) in
-    record {
-      marks = passed 2 _ (omega arith) (second .0);
-      count = in-range (1 ‥ MOST-MEMBERS) (countOf bytes) (passed 3 counted (omega arith) (third .0));
-      size = eqb-true _ _ (passed 1 sized (omega arith) (fourth .0));
-    }
-
-pub header-clear : (bytes : List ℕ) → Headed bytes → surveyHeader bytes ≡ 0
-unfolding surveyHeader
-header-clear bytes h =
-    rw (le-leb SURVEY-HEADER (length bytes) (omega arith), h .marks, range-in (1 ‥ MOST-MEMBERS) (countOf bytes) (h .count), eq-eqb _ _ (h .size))
-
 -- a fault of the header is the answer, at place 0
 pub header-first : (bytes : List ℕ) (n : ℕ) → surveyHeader bytes ≡ n → (n ≡ 0 → ⊥) → surveyAnswer bytes ≡ refusal n 0
 unfolding surveyAnswer

@@ -1,5 +1,6 @@
 pub mod Words
 pub mod Reading
+pub mod Header
 pub mod SurveyFile
 pub mod VehicleFile
 pub mod Allowed

@@ -3,14 +3,15 @@
 use Prim.Native.Nat.{ℕ, _+_, _-_, _*_}
 use mathlib.Core.List.{List, [], _∷_, _++_}
 use mathlib.Core.Bool.{Bool, not, _&&_, _||_}
-use lib.ListN.{length, replicate}
+use lib.ListN.{replicate}
 use lib.Dec.{eqb, leb}
 use Rattle.rating.specs.declared.record.Member.{Member}
 use Rattle.rating.specs.declared.record.Survey.{Survey}
 use Rattle.rating.specs.Fields.{KIND, SPECIES, SPAN, CODE, MU-A, MU-B, FIELDS, field}
 use Rattle.rating.specs.Format.{_‥_, used, rangeOf, suits}
-use Rattle.files.specs.Words.{byteAt, words, each, marked}
+use Rattle.files.specs.Words.{byteAt, words, each}
 use Rattle.files.specs.Reading.{_unless_, firstOf, firstFault, isIn, all}
+use Rattle.files.specs.Header.{headerFault}
 use Rattle.files.specs.declared.Reading.{Reading}
 use Rattle.files.specs.declared.Reading.the-variants.{Taken, Refused}
 use Rattle.files.specs.declared.SurveyRead.{SurveyRead}
@@ -30,19 +31,13 @@ RECORD = 32
 abbrev pub countOf : List ℕ → ℕ
 countOf bytes = byteAt bytes 5
 
+-- the mark is TBR
+abbrev pub surveyHeader : List ℕ → ℕ
+surveyHeader bytes = headerFault 82 SURVEY-HEADER MOST-MEMBERS RECORD bytes
+
 -- the record of index i, from 0
 abbrev pub recordAt : List ℕ → ℕ → Member
 recordAt bytes i = record { fields = words bytes (SURVEY-HEADER + RECORD * i) 2 FIELDS }
-
--- "A file shorter than its header gives 1, then 2, 3, 1 are tested"
-unfoldable pub surveyHeader : List ℕ → ℕ
-surveyHeader bytes =
-    firstOf
-    (1 unless leb SURVEY-HEADER (length bytes) ∷
-    2 unless marked bytes 82 ∷
-    3 unless isIn (1 ‥ MOST-MEMBERS) (countOf bytes) ∷
-    1 unless eqb (length bytes) (SURVEY-HEADER + RECORD * countOf bytes) ∷
-    [])
 
 -- a field is 0 where the record does not use it
 unfoldable pub zeroed : Member → ℕ → Bool

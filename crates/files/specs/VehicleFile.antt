@@ -4,12 +4,13 @@
 use Prim.Native.Nat.{ℕ, _+_, _-_, _*_}
 use mathlib.Core.List.{List, [], _∷_, _++_}
 use mathlib.Core.Bool.{Bool, _&&_}
-use lib.ListN.{length, replicate}
-use lib.Dec.{eqb, leb}
+use lib.ListN.{replicate}
+use lib.Dec.{eqb}
 use Rattle.rating.specs.declared.record.Vehicle.{Vehicle}
 use Rattle.rating.specs.Format.{Range, _‥_, choose}
-use Rattle.files.specs.Words.{byteAt, wordAt, words, each, marked}
+use Rattle.files.specs.Words.{byteAt, wordAt, each}
 use Rattle.files.specs.Reading.{_unless_, firstOf, firstFault, isIn}
+use Rattle.files.specs.Header.{headerFault}
 use Rattle.files.specs.declared.Reading.{Reading}
 use Rattle.files.specs.declared.Reading.the-variants.{Taken, Refused}
 use Rattle.files.specs.declared.VehicleRead.{VehicleRead}
@@ -42,14 +43,11 @@ weightAt bytes i = wordAt bytes (VEHICLE-HEADER + AXLE * i)
 abbrev pub distanceAt : List ℕ → ℕ → ℕ
 distanceAt bytes i = wordAt bytes (VEHICLE-HEADER + 2 + AXLE * i)
 
--- "A file shorter than its header gives 1, then 2, 3, 1 are tested", "0 for class or track, which come first"
+-- the mark is TBV; "7 .. class or track outside its range", "0 for class or track, which come first"
 unfoldable pub vehicleHeader : List ℕ → ℕ
 vehicleHeader bytes =
     firstOf
-    (1 unless leb VEHICLE-HEADER (length bytes) ∷
-    2 unless marked bytes 86 ∷
-    3 unless isIn (1 ‥ MOST-AXLES) (axlesOf bytes) ∷
-    1 unless eqb (length bytes) (VEHICLE-HEADER + AXLE * axlesOf bytes) ∷
+    (headerFault 86 VEHICLE-HEADER MOST-AXLES AXLE bytes ∷
     7 unless (isIn (0 ‥ 1) (classOf bytes) && isIn (100 ‥ 300) (trackOf bytes)) ∷
     [])
 
@@ -57,9 +55,12 @@ vehicleHeader bytes =
 abbrev pub axleRange : ℕ → Range
 axleRange i = choose (eqb i 0) (0 ‥ 0) (1 ‥ 2000)
 
+unfoldable pub axleWithin : List ℕ → ℕ → Bool
+axleWithin bytes i = isIn (1 ‥ 60000) (weightAt bytes i) && isIn (axleRange i) (distanceAt bytes i)
+
 -- "7 a used number .. outside its range, .. or a first axle's distance other than 0"
-unfoldable pub axleFault : List ℕ → ℕ → ℕ
-axleFault bytes i = 7 unless (isIn (1 ‥ 60000) (weightAt bytes i) && isIn (axleRange i) (distanceAt bytes i))
+abbrev pub axleFault : List ℕ → ℕ → ℕ
+axleFault bytes i = 7 unless axleWithin bytes i
 
 -- the faults of header, class and track have place 0, the axles' places start at 1
 unfoldable pub vehicleAnswer : List ℕ → Reading

@@ -1,9 +1,7 @@
 -- The numbers of a file. Document 01, 'Files': "Little-endian."
 use Prim.Native.Nat.{ℕ, zero, suc, _+_, _*_}
 use mathlib.Core.List.{List, [], _∷_, _++_}
-use mathlib.Core.Bool.{Bool, _&&_}
 use lib.ListN.{getD}
-use lib.Dec.{eqb}
 
 -- the byte at a place
 abbrev pub byteAt : List ℕ → ℕ → ℕ
@@ -21,7 +19,3 @@ each f (suc n) = each f n ++ f n ∷ []
 -- the first n words of a row of words that stand `step` bytes apart
 abbrev pub words : List ℕ → (at step n : ℕ) → List ℕ
 words bytes at step n = each (λ i. wordAt bytes (at + step * i)) n
-
--- the letters TB and a third one, and version 1
-unfoldable pub marked : List ℕ → (letter : ℕ) → Bool
-marked bytes letter = eqb (byteAt bytes 0) 84 && eqb (byteAt bytes 1) 66 && eqb (byteAt bytes 2) letter && eqb (wordAt bytes 3) 1

@@ -4,6 +4,7 @@ pub mod member;
 pub mod ranges;
 pub mod survey;
 pub mod vehicle;
+pub mod header;
 pub mod words;
 
 use rating::record::Survey;

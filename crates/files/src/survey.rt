@@ -2,10 +2,12 @@
 use crate::Reading;
 use crate::Refusal;
 use crate::SurveyRead;
+use crate::header::header_fault;
 use crate::member::code_fault;
+use crate::header::header_fault;
 use crate::member::is_within;
+use crate::header::header_fault;
 use crate::member::is_zeroed;
-use crate::ranges::inside;
 use crate::words::is_marked;
 use crate::words::wide;
 use crate::words::words;
@@ -19,7 +21,7 @@ ghost use Prim.Native.Nat.{_+_, _-_, _*_, _≤_, _<_};
 ghost use lib.ListN.{length, replicate};
 ghost use Rattle.files.specs.Words.{each};
 ghost use Rattle.files.specs.Reading.{firstFault};
-ghost use Rattle.files.specs.SurveyFile.{MOST-MEMBERS, SURVEY-HEADER, RECORD, recordAt, surveyHeader, memberFault, blankMember, blankSurvey, readSurvey};
+ghost use Rattle.files.specs.SurveyFile.{MOST-MEMBERS, SURVEY-HEADER, RECORD, recordAt, memberFault, blankMember, blankSurvey, readSurvey};
 
 // The letters, the version and the count.
 const HEADER: usize = 6;
@@ -30,26 +32,6 @@ const RECORD: usize = 32;
 const FIELDS: usize = 16;
 
 const MOST_MEMBERS: u16 = 64;
-
-// The header's fault: 1 shorter than the header, 2 mark or version, 3 count, 1 length; or 0.
-fn survey_header(bytes: &[u8]) -> u64
-    ensures { λ r. ⌜ r ≡ surveyHeader (now (bytes .entry)) ⌝ }
-{
-    if bytes.len() < HEADER {
-        return 1;
-    }
-    if !is_marked(bytes, b'R') {
-        return 2;
-    }
-    let count = wide(bytes[5]);
-    if !inside(1, MOST_MEMBERS, count) {
-        return 3;
-    }
-    if bytes.len() != HEADER + RECORD * (count as usize) {
-        return 1;
-    }
-    0
-}
 
 fn record_at(bytes: &[u8], i: usize) -> Member
     requires { ⌜ SURVEY-HEADER + RECORD * (i + 1) ≤ length (now bytes) ⌝ }
@@ -130,7 +112,7 @@ fn refused(answer: Reading) -> SurveyRead
 pub fn read_survey(bytes: &[u8]) -> SurveyRead
     ensures { λ r. ⌜ r ≡ readSurvey (now (bytes .entry)) ⌝ }
 {
-    let number = survey_header(bytes);
+    let number = header_fault(bytes, b'R', HEADER, MOST_MEMBERS, RECORD);
     if number != 0 {
         return refused(Reading::Refused(Refusal { number, place: 0 }));
     }

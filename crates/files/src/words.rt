@@ -3,10 +3,7 @@ ghost use mathlib.Core.Path.{_≡_};
 ghost use Prim.Native.Nat.{_+_, _-_, _*_, _<_, _≤_};
 ghost use mathlib.Core.List.{_++_};
 ghost use lib.ListN.{length, replicate};
-ghost use Rattle.files.specs.Words.{wordAt, words, marked};
-
-// The version of both files.
-const VERSION: u16 = 1;
+ghost use Rattle.files.specs.Words.{wordAt, words};
 
 pub fn wide(byte: u8) -> u16
     ensures { λ r. ⌜ (r ≡ byte) × (r < 256) ⌝ }
@@ -36,16 +33,4 @@ pub fn words(bytes: &[u8], at: usize, step: usize, count: usize) -> [u16; 16]
         i += 1;
     }
     row
-}
-
-// The letters TB and a third one, and version 1.
-pub fn is_marked(bytes: &[u8], letter: u8) -> bool
-    requires { ⌜ 5 ≤ length (now bytes) ⌝ }
-    ensures { λ r. ⌜ r ≡ marked (now (bytes .entry)) letter ⌝ }
-{
-    let first = bytes[0] == b'T';
-    let second = bytes[1] == b'B';
-    let third = bytes[2] == letter;
-    let version = word_at(bytes, 3) == VERSION;
-    first & second & third & version
 }

@@ -7,15 +7,16 @@ use lib.ListN.{length}
 use borrow.Author.Needs.{needs}
 use denote.Ref.{now}
 use Rattle.files.specs.SurveyFile.{surveyBy, countOf}
-use Rattle.files.proofs.Surveys.{headed, header-first, records-next, read-as}
+use Rattle.files.proofs.Headers.{headed}
+use Rattle.files.proofs.Surveys.{header-first, records-next, read-as}
 use Rattle.files.proofs.survey.read_survey.Statement.{statement}
 use Rattle.files.proofs.survey.read_survey.Tie as tie
 
 -- `read_survey` meets its contract: a fault of the header is the answer, else the records' first fault is, and the survey is
 -- the one that belongs to the answer.
 
-survey-header-requires : tie.Need-survey-header-requires
-survey-header-requires c κs = search needs
+header-fault-requires : tie.Need-header-fault-requires
+header-fault-requires c κs = search needs
 
 refused-requires : tie.Need-refused-requires
 refused-requires c κs = search needs
@@ -23,11 +24,11 @@ refused-requires c κs = search needs
 returns : tie.Need-returns
 returns c =
     let b = now (c .before .before .before .before .args .bytes) in
-    let e = c .refused .ensures .0 ∙ sym (header-first b _ (sym (c .before .before .survey-header .ensures)) (c .before .if1 .taken)) in
+    let e = c .refused .ensures .0 ∙ sym (header-first b _ (sym (c .before .before .header-fault .ensures)) (c .before .if1 .taken)) in
     read-as b (c .refused .result .answer) (c .refused .result .survey) e (rw (c .refused .ensures .0) (c .refused .ensures .1))
 
 shared-slice-read-wide : tie.Need-shared-slice-read-wide
-shared-slice-read-wide c = let h = headed (now (c .before .before .before .before .args .bytes)) (sym (c .before .before .survey-header .ensures) ∙ c .before .if1 .left) in omega (arith, h .size)
+shared-slice-read-wide c = let h = headed 82 6 64 32 (now (c .before .before .before .before .args .bytes)) (sym (c .before .before .header-fault .ensures) ∙ c .before .if1 .left) in omega (arith, h .sized)
 
 wide-requires : tie.Need-wide-requires
 wide-requires c κs = search needs
@@ -36,16 +37,16 @@ cast-count : tie.Need-cast-count
 cast-count c = search needs
 
 first-fault-requires : tie.Need-first-fault-requires
-first-fault-requires c κs = let h = headed (now (c .before .before .before .before .before .args .bytes)) (sym (c .before .before .before .survey-header .ensures) ∙ c .before .before .if1 .left) in omega (arith, h .size, c .wide .ensures .0)
+first-fault-requires c κs = let h = headed 82 6 64 32 (now (c .before .before .before .before .before .args .bytes)) (sym (c .before .before .before .header-fault .ensures) ∙ c .before .before .if1 .left) in omega (arith, h .sized, c .wide .ensures .0)
 
 enum-told : tie.Need-enum-told
 enum-told c = search needs
 
 members-of-requires : tie.Need-members-of-requires
 members-of-requires c κs =
-    let h = headed (now (c .before .before .before .before .before .before .before .before .args .bytes)) (sym (c .before .before .before .before .before .before .survey-header .ensures) ∙ c .before .before .before .before .before .if1 .left) in
+    let h = headed 82 6 64 32 (now (c .before .before .before .before .before .before .before .before .args .bytes)) (sym (c .before .before .before .before .before .before .header-fault .ensures) ∙ c .before .before .before .before .before .if1 .left) in
     let w = c .before .before .before .wide .ensures .0 in
-    (omega (arith, h .count, w), omega (arith, h .size, w))
+    (omega (arith, h .count, w), omega (arith, h .sized, w))
 
 enum-told-2 : tie.Need-enum-told-2
 enum-told-2 c = search needs
@@ -57,7 +58,7 @@ returns-2 : tie.Need-returns-2
 returns-2 c =
     let w = c .before .before .before .before in
     let b = now (w .before .before .before .before .before .args .bytes) in
-    let clear = sym (w .before .before .before .survey-header .ensures) ∙ w .before .before .if1 .left in
+    let clear = sym (w .before .before .before .header-fault .ensures) ∙ w .before .before .if1 .left in
     let e = rw (w .wide .ensures .0) at (c .before .before .before .first-fault .ensures) in
     read-as b (c .before .before .before .first-fault .result) _ (e ∙ sym (records-next b clear)) (rw (c .before .enum-told .given .1, c .members-of .ensures, w .wide .ensures .0))
 
@@ -65,7 +66,7 @@ returns-3 : tie.Need-returns-3
 returns-3 c =
     let w = c .before .before .before .before in
     let b = now (w .before .before .before .before .before .args .bytes) in
-    let clear = sym (w .before .before .before .survey-header .ensures) ∙ w .before .before .if1 .left in
+    let clear = sym (w .before .before .before .header-fault .ensures) ∙ w .before .before .if1 .left in
     let e = rw (w .wide .ensures .0) at (c .before .before .before .first-fault .ensures) in
     read-as b (c .refused2 .result .answer) (c .refused2 .result .survey) (c .refused2 .ensures .0 ∙ e ∙ sym (records-next b clear)) (rw (c .refused2 .ensures .0, c .before .enum-told2 .given .1) (c .refused2 .ensures .1))
 
@@ -73,7 +74,7 @@ pub read-survey-spec : {M : Type 1} → statement M
 read-survey-spec =
     tie.close
     (tie.spec
-    survey-header-requires
+    header-fault-requires
     refused-requires
     returns
     shared-slice-read-wide

@@ -1,8 +1,8 @@
 -- `is_marked` meets its contract: the version is the word that the callee gives.
 use borrow.Author.Needs.{needs}
-use Rattle.files.specs.Words.{marked}
-use Rattle.files.proofs.words.is_marked.Statement.{statement}
-use Rattle.files.proofs.words.is_marked.Tie as tie
+use Rattle.files.specs.Header.{marked}
+use Rattle.files.proofs.header.is_marked.Statement.{statement}
+use Rattle.files.proofs.header.is_marked.Tie as tie
 
 shared-slice-read-first : tie.Need-shared-slice-read-first
 shared-slice-read-first c = search needs

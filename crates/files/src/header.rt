@@ -1,0 +1,44 @@
+// The head of a file: mark, version, count of records and length.
+use crate::ranges::inside;
+use crate::words::{wide, word_at};
+ghost use mathlib.Core.Path.{_≡_};
+ghost use Prim.Native.Nat.{_≤_};
+ghost use lib.ListN.{length};
+ghost use Rattle.files.specs.Header.{marked, headerFault};
+
+// The version of both files.
+const VERSION: u16 = 1;
+
+// The letters TB and a third one, and the version.
+fn is_marked(bytes: &[u8], letter: u8) -> bool
+    requires { ⌜ 5 ≤ length (now bytes) ⌝ }
+    ensures { λ r. ⌜ r ≡ marked (now (bytes .entry)) letter ⌝ }
+{
+    let first = bytes[0] == b'T';
+    let second = bytes[1] == b'B';
+    let third = bytes[2] == letter;
+    let version = word_at(bytes, 3) == VERSION;
+    first & second & third & version
+}
+
+// 1 shorter than the header, 2 mark or version, 3 count, 1 length; or 0.
+pub fn header_fault(bytes: &[u8], letter: u8, header: usize, most: u16, size: usize) -> u64
+    requires { ⌜ (5 ≤ header) × (header ≤ 16) × (size ≤ 64) ⌝ }
+    ensures { λ r. ⌜ r ≡ headerFault letter header most size (now (bytes .entry)) ⌝ }
+{
+    if bytes.len() < header {
+        return 1;
+    }
+    if !is_marked(bytes, letter) {
+        return 2;
+    }
+    let count = wide(bytes[header - 1]);
+    if !inside(1, most, count) {
+        return 3;
+    }
+    let records = count as usize;
+    if bytes.len() != header + size * records {
+        return 1;
+    }
+    0
+}
