@@ -8,7 +8,7 @@ use lib.ListN.{length}
 use lib.Dec.{eqb, leb}
 use borrow.Author.Tests.{eqb-true, eq-eqb, ne-eqb, leb-true, le-leb}
 use Rattle.rating.specs.Format.{_‥_, In}
-use Rattle.files.specs.Words.{marked, each}
+use Rattle.files.specs.Words.{each}
 use Rattle.files.specs.Reading.{_unless_, firstOf, firstFault, isIn}
 use Rattle.files.specs.SurveyFile.{MOST-MEMBERS, SURVEY-HEADER, RECORD, countOf, recordAt, memberFault, surveyHeader, surveyAnswer, surveyBy, readSurvey}
 use Rattle.rating.specs.declared.record.Survey.{Survey}

@@ -9,7 +9,7 @@ ghost use Prim.Native.Nat.{_+_, _*_, _≤_};
 ghost use lib.ListN.{length, getD};
 ghost use Rattle.files.specs.Words.{each};
 ghost use Rattle.files.specs.Reading.{firstFault};
-ghost use Rattle.files.specs.VehicleFile.{MOST-AXLES, VEHICLE-HEADER, AXLE, axleWithin, axleFault, vehicleHeader, vehicleOf, blankVehicle, readVehicle};
+ghost use Rattle.files.specs.VehicleFile.{MOST-AXLES, VEHICLE-HEADER, AXLE, axlesOf, axleWithin, axleFault, vehicleHeader, vehicleOf, blankVehicle, readVehicle};
 
 // The letters, the version, class, track and count.
 const HEADER: usize = 9;
@@ -76,6 +76,12 @@ fn first_fault(bytes: &[u8], axles: usize) -> Reading
     answer
 }
 
+fn wider(word: u16) -> u32
+    ensures { λ r. ⌜ r ≡ word ⌝ }
+{
+    word as u32
+}
+
 // The same numbers as u32.
 fn widened(row: [u16; 16]) -> [u32; 16]
     ensures { λ r. ⌜ r ≡ each (λ i. getD row i 0) MOST-AXLES ⌝ }
@@ -83,15 +89,15 @@ fn widened(row: [u16; 16]) -> [u32; 16]
     let mut out = [0u32; 16];
     let mut i: usize = 0;
     while i < 16 {
-        out[i] = row[i] as u32;
+        out[i] = wider(row[i]);
         i += 1;
     }
     out
 }
 
 fn vehicle_of(bytes: &[u8], axles: usize) -> Vehicle
-    requires { ⌜ (axles ≤ MOST-AXLES) × (VEHICLE-HEADER + AXLE * axles ≤ length (now bytes)) ⌝ }
-    ensures { λ r. ⌜ (r .axles ≡ axles) ⌝ }
+    requires { ⌜ (axles ≡ axlesOf (now bytes)) × (axles ≤ MOST-AXLES) × (VEHICLE-HEADER + AXLE * axles ≤ length (now bytes)) ⌝ }
+    ensures { λ r. ⌜ r ≡ vehicleOf (now (bytes .entry)) ⌝ }
 {
     let class = bytes[5];
     let track = word_at(bytes, 6);

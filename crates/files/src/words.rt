@@ -23,7 +23,7 @@ pub fn word_at(bytes: &[u8], at: usize) -> u16
 
 // The first `count` words of a row that stand `step` bytes apart; the rest are 0.
 pub fn words(bytes: &[u8], at: usize, step: usize, count: usize) -> [u16; 16]
-    requires { ⌜ (count ≤ 16) × (step ≤ 4) × (2 ≤ step) × (at + step * count ≤ length (now bytes)) ⌝ }
+    requires { ⌜ (count ≤ 16) × (step ≤ 4) × (2 ≤ step) × (at + step * count ≤ length (now bytes) + (step - 2)) ⌝ }
     ensures { λ r. ⌜ r ≡ words (now (bytes .entry)) at step count ++ replicate (16 - count) 0 ⌝ }
 {
     let mut row = [0u16; 16];

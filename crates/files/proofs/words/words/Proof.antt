@@ -12,7 +12,7 @@ use Rattle.files.proofs.words.words.Statement.{statement}
 use Rattle.files.proofs.words.words.Tie as tie
 
 -- a word of the row lies within the bytes
-inside : (at step count size i : ℕ) → i < count → 2 ≤ step → at + step * count ≤ size → at + step * i + 1 < size
+inside : (at step count size i : ℕ) → i < count → 2 ≤ step → at + step * count ≤ size + (step - 2) → at + step * i + 1 < size
 inside at step count size i h two all = omega (arith, mul-le-mul-left step (add-one-le h))
 
 -- `words` meets its contract. The invariant: the row holds the first i words, and 0 after them. A store makes it one word more.

@@ -1,0 +1,63 @@
+-- `vehicle_header` meets its contract: the header's fault is the callee's, then class and track are tested.
+use mathlib.Core.Path.{sym, _∙_}
+use mathlib.Core.Bool.{_&&_}
+use native.Mathlib.Omega.{arith}
+use borrow.Author.Needs.{needs}
+use borrow.Author.Tests.{ne-eqb, not-true, not-false}
+use denote.Ref.{now}
+use Rattle.files.specs.VehicleFile.{vehicleHeader}
+use Rattle.files.proofs.Headers.{headed}
+use Rattle.files.proofs.vehicle.vehicle_header.Statement.{statement}
+use Rattle.files.proofs.vehicle.vehicle_header.Tie as tie
+
+-- `vehicle_header` meets its contract: the header's fault is the callee's, then class and track are tested.
+
+header-fault-requires : tie.Need-header-fault-requires
+header-fault-requires c κs = search needs
+
+returns : tie.Need-returns
+unfolding vehicleHeader
+returns c = rw (← c .before .header-fault .ensures, ne-eqb _ _ (c .if1 .taken))
+
+shared-slice-read-wide : tie.Need-shared-slice-read-wide
+shared-slice-read-wide c = let b = c .before .before in omega (arith, headed 86 9 16 4 (now (b .before .before .args .bytes)) (sym (b .header-fault .ensures) ∙ c .before .if1 .left) .long)
+
+wide-requires : tie.Need-wide-requires
+wide-requires c κs = search needs
+
+inside-requires : tie.Need-inside-requires
+inside-requires c κs = search needs
+
+word-at-requires : tie.Need-word-at-requires
+word-at-requires c κs = let b = c .before .before .before .before in omega (arith, headed 86 9 16 4 (now (b .before .before .args .bytes)) (sym (b .header-fault .ensures) ∙ c .before .before .before .if1 .left) .long)
+
+inside-requires-2 : tie.Need-inside-requires-2
+inside-requires-2 c κs = search needs
+
+returns-2 : tie.Need-returns-2
+unfolding vehicleHeader
+returns-2 c =
+    let w = c .before .before .before .before in
+    let t = rw (w .before .before .before .header-fault .ensures) at (w .before .before .if1 .left) in
+    rw (t, rw (c .before .before .before .inside .ensures, c .before .inside2 .ensures, w .wide .ensures .0, c .before .before .word-at .ensures) at (not-true (c .before .before .before .inside .result && c .before .inside2 .result) (c .if2 .taken)))
+
+returns-3 : tie.Need-returns-3
+unfolding vehicleHeader
+returns-3 c =
+    let w = c .before .before .before .before in
+    let t = rw (w .before .before .before .header-fault .ensures) at (w .before .before .if1 .left) in
+    rw (t, rw (c .before .before .before .inside .ensures, c .before .inside2 .ensures, w .wide .ensures .0, c .before .before .word-at .ensures) at (not-false (c .before .before .before .inside .result && c .before .inside2 .result) (c .if2 .left)))
+
+pub vehicle-header-spec : {M : Type 1} → statement M
+vehicle-header-spec =
+    tie.close
+    (tie.spec
+    header-fault-requires
+    returns
+    shared-slice-read-wide
+    wide-requires
+    inside-requires
+    word-at-requires
+    inside-requires-2
+    returns-2
+    returns-3)
