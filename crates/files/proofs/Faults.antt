@@ -24,6 +24,13 @@ refusal number place = Refused (record { number = number; place = place })
 refused-not : (number place : ℕ) → refusal number place ≡ Taken → ⊥
 refused-not number place e = let z : _≡_ {A = ℕ} 0 1 = cc in omega arith
 
+-- a fault of the head is the answer; after a good head the rest decide
+pub head-first : (place n head : ℕ) (rest : List ℕ) → head ≡ n → (n ≡ 0 → ⊥) → firstFault place (head ∷ rest) ≡ refusal n place
+head-first place n head rest e h = rw (e, ne-eqb n 0 h)
+
+pub head-clear : (place head : ℕ) (rest : List ℕ) → head ≡ 0 → firstFault place (head ∷ rest) ≡ firstFault (suc place) rest
+head-clear place head rest e = rw e
+
 -- where the first of a list have no fault, the rest decide
 pub skip : (place : ℕ) (ns rest : List ℕ) → firstFault place ns ≡ Taken → firstFault place (ns ++ rest) ≡ firstFault (place + length ns) rest
 skip place [] rest e = rw add-zero

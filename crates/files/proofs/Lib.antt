@@ -5,3 +5,4 @@ pub mod Faults
 pub mod Headers
 pub mod Members
 pub mod Surveys
+pub mod Vehicles

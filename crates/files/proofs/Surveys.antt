@@ -18,16 +18,6 @@ use Rattle.files.specs.declared.SurveyRead.{SurveyRead}
 use Rattle.files.proofs.Faults.{refusal}
 use Rattle.files.proofs.Tests.{in-range, range-in, passed, none}
 
--- a fault of the header is the answer, at place 0
-pub header-first : (bytes : List ℕ) (n : ℕ) → surveyHeader bytes ≡ n → (n ≡ 0 → ⊥) → surveyAnswer bytes ≡ refusal n 0
-unfolding surveyAnswer
-header-first bytes n e h = rw (e, ne-eqb n 0 h)
-
--- after a good header the records decide
-pub records-next : (bytes : List ℕ) → surveyHeader bytes ≡ 0 → surveyAnswer bytes ≡ firstFault 1 (each (λ i. memberFault (recordAt bytes i)) (countOf bytes))
-unfolding surveyAnswer
-records-next bytes e = rw e
-
 -- the reading is its answer with the survey that belongs to it
 pub read-as : (bytes : List ℕ) (answer : Reading) (survey : Survey) → answer ≡ surveyAnswer bytes → survey ≡ surveyBy answer bytes → _≡_ {A = SurveyRead} (record { answer = answer; survey = survey }) (readSurvey bytes)
 unfolding readSurvey

@@ -65,9 +65,13 @@ fieldFault m =
 unfoldable pub memberFault : Member → ℕ
 memberFault m = firstOf (codeFault m ∷ fieldFault m ∷ [])
 
+-- the faults of the first n records
+abbrev pub recordFaults : List ℕ → ℕ → List ℕ
+recordFaults bytes n = each (λ i. memberFault (recordAt bytes i)) n
+
 -- the header's fault has place 0, the records' places start at 1
 unfoldable pub surveyAnswer : List ℕ → Reading
-surveyAnswer bytes = firstFault 0 (surveyHeader bytes ∷ each (λ i. memberFault (recordAt bytes i)) (countOf bytes))
+surveyAnswer bytes = firstFault 0 (surveyHeader bytes ∷ recordFaults bytes (countOf bytes))
 
 abbrev pub blankMember : Member
 blankMember = record { fields = replicate FIELDS 0 }

@@ -62,9 +62,13 @@ axleWithin bytes i = isIn (1 ‥ 60000) (weightAt bytes i) && isIn (axleRange i)
 abbrev pub axleFault : List ℕ → ℕ → ℕ
 axleFault bytes i = 7 unless axleWithin bytes i
 
+-- the faults of the first n axles
+abbrev pub axleFaults : List ℕ → ℕ → List ℕ
+axleFaults bytes n = each (axleFault bytes) n
+
 -- the faults of header, class and track have place 0, the axles' places start at 1
 unfoldable pub vehicleAnswer : List ℕ → Reading
-vehicleAnswer bytes = firstFault 0 (vehicleHeader bytes ∷ each (axleFault bytes) (axlesOf bytes))
+vehicleAnswer bytes = firstFault 0 (vehicleHeader bytes ∷ axleFaults bytes (axlesOf bytes))
 
 abbrev pub blankVehicle : Vehicle
 blankVehicle =

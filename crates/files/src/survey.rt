@@ -18,7 +18,7 @@ ghost use Prim.Native.Nat.{_+_, _-_, _*_, _≤_, _<_};
 ghost use lib.ListN.{length, replicate};
 ghost use Rattle.files.specs.Words.{each};
 ghost use Rattle.files.specs.Reading.{firstFault};
-ghost use Rattle.files.specs.SurveyFile.{MOST-MEMBERS, SURVEY-HEADER, RECORD, recordAt, memberFault, blankMember, blankSurvey, readSurvey};
+ghost use Rattle.files.specs.SurveyFile.{MOST-MEMBERS, SURVEY-HEADER, RECORD, recordAt, recordFaults, blankMember, blankSurvey, readSurvey};
 
 // The letters, the version and the count.
 const HEADER: usize = 6;
@@ -42,7 +42,7 @@ fn record_at(bytes: &[u8], i: usize) -> Member
 // where it is unused: 8 goes before 7.
 fn first_fault(bytes: &[u8], count: usize) -> Reading
     requires { ⌜ SURVEY-HEADER + RECORD * count ≤ length (now bytes) ⌝ }
-    ensures { λ r. ⌜ r ≡ firstFault 1 (each (λ i. memberFault (recordAt (now (bytes .entry)) i)) count) ⌝ }
+    ensures { λ r. ⌜ r ≡ firstFault 1 (recordFaults (now (bytes .entry)) count) ⌝ }
 {
     let mut answer = Reading::Taken;
     let mut i: usize = 0;

@@ -9,7 +9,7 @@ ghost use Prim.Native.Nat.{_+_, _*_, _≤_};
 ghost use lib.ListN.{length, getD};
 ghost use Rattle.files.specs.Words.{each};
 ghost use Rattle.files.specs.Reading.{firstFault};
-ghost use Rattle.files.specs.VehicleFile.{MOST-AXLES, VEHICLE-HEADER, AXLE, axlesOf, axleWithin, axleFault, vehicleHeader, vehicleOf, blankVehicle, readVehicle};
+ghost use Rattle.files.specs.VehicleFile.{MOST-AXLES, VEHICLE-HEADER, AXLE, axlesOf, axleWithin, axleFaults, vehicleHeader, vehicleOf, blankVehicle, readVehicle};
 
 // The letters, the version, class, track and count.
 const HEADER: usize = 9;
@@ -59,7 +59,7 @@ fn axle_within(bytes: &[u8], i: usize) -> bool
 // The first fault in the order of axles, with its place.
 fn first_fault(bytes: &[u8], axles: usize) -> Reading
     requires { ⌜ VEHICLE-HEADER + AXLE * axles ≤ length (now bytes) ⌝ }
-    ensures { λ r. ⌜ r ≡ firstFault 1 (each (axleFault (now (bytes .entry))) axles) ⌝ }
+    ensures { λ r. ⌜ r ≡ firstFault 1 (axleFaults (now (bytes .entry)) axles) ⌝ }
 {
     let mut answer = Reading::Taken;
     let mut i: usize = 0;
@@ -109,5 +109,37 @@ fn vehicle_of(bytes: &[u8], axles: usize) -> Vehicle
         axles,
         weights,
         distances,
+    }
+}
+
+fn refused(answer: Reading) -> VehicleRead
+    ensures { λ r. ⌜ (r .answer ≡ answer) × (r .vehicle ≡ blankVehicle) ⌝ }
+{
+    let vehicle = Vehicle {
+        class: 0,
+        track: 0,
+        axles: 0,
+        weights: [0u32; 16],
+        distances: [0u16; 16],
+    };
+    VehicleRead { answer, vehicle }
+}
+
+// A vehicle file of any length: the vehicle, or the first fault.
+pub fn read_vehicle(bytes: &[u8]) -> VehicleRead
+    ensures { λ r. ⌜ r ≡ readVehicle (now (bytes .entry)) ⌝ }
+{
+    let number = vehicle_header(bytes);
+    if number != 0 {
+        return refused(Reading::Refused(Refusal { number, place: 0 }));
+    }
+    let axles = wide(bytes[8]) as usize;
+    let answer = first_fault(bytes, axles);
+    match answer {
+        Reading::Taken => {
+            let vehicle = vehicle_of(bytes, axles);
+            VehicleRead { answer, vehicle }
+        }
+        Reading::Refused(_) => refused(answer),
     }
 }

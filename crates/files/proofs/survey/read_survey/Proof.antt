@@ -6,9 +6,10 @@ use native.Mathlib.Omega.{arith}
 use lib.ListN.{length}
 use borrow.Author.Needs.{needs}
 use denote.Ref.{now}
-use Rattle.files.specs.SurveyFile.{surveyBy, countOf}
+use Rattle.files.specs.SurveyFile.{countOf, recordFaults, surveyAnswer}
 use Rattle.files.proofs.Headers.{headed}
-use Rattle.files.proofs.Surveys.{header-first, records-next, read-as}
+use Rattle.files.proofs.Faults.{head-first, head-clear}
+use Rattle.files.proofs.Surveys.{read-as}
 use Rattle.files.proofs.survey.read_survey.Statement.{statement}
 use Rattle.files.proofs.survey.read_survey.Tie as tie
 
@@ -22,9 +23,10 @@ refused-requires : tie.Need-refused-requires
 refused-requires c κs = search needs
 
 returns : tie.Need-returns
+unfolding surveyAnswer
 returns c =
     let b = now (c .before .before .before .before .args .bytes) in
-    let e = c .refused .ensures .0 ∙ sym (header-first b _ (sym (c .before .before .header-fault .ensures)) (c .before .if1 .taken)) in
+    let e = c .refused .ensures .0 ∙ sym (head-first 0 _ _ (recordFaults b (countOf b)) (sym (c .before .before .header-fault .ensures)) (c .before .if1 .taken)) in
     read-as b (c .refused .result .answer) (c .refused .result .survey) e (rw (c .refused .ensures .0) (c .refused .ensures .1))
 
 shared-slice-read-wide : tie.Need-shared-slice-read-wide
@@ -55,20 +57,22 @@ refused-requires-2 : tie.Need-refused-requires-2
 refused-requires-2 c κs = search needs
 
 returns-2 : tie.Need-returns-2
+unfolding surveyAnswer
 returns-2 c =
     let w = c .before .before .before .before in
     let b = now (w .before .before .before .before .before .args .bytes) in
     let clear = sym (w .before .before .before .header-fault .ensures) ∙ w .before .before .if1 .left in
     let e = rw (w .wide .ensures .0) at (c .before .before .before .first-fault .ensures) in
-    read-as b (c .before .before .before .first-fault .result) _ (e ∙ sym (records-next b clear)) (rw (c .before .enum-told .given .1, c .members-of .ensures, w .wide .ensures .0))
+    read-as b (c .before .before .before .first-fault .result) _ (e ∙ sym (head-clear 0 _ (recordFaults b (countOf b)) clear)) (rw (c .before .enum-told .given .1, c .members-of .ensures, w .wide .ensures .0))
 
 returns-3 : tie.Need-returns-3
+unfolding surveyAnswer
 returns-3 c =
     let w = c .before .before .before .before in
     let b = now (w .before .before .before .before .before .args .bytes) in
     let clear = sym (w .before .before .before .header-fault .ensures) ∙ w .before .before .if1 .left in
     let e = rw (w .wide .ensures .0) at (c .before .before .before .first-fault .ensures) in
-    read-as b (c .refused2 .result .answer) (c .refused2 .result .survey) (c .refused2 .ensures .0 ∙ e ∙ sym (records-next b clear)) (rw (c .refused2 .ensures .0, c .before .enum-told2 .given .1) (c .refused2 .ensures .1))
+    read-as b (c .refused2 .result .answer) (c .refused2 .result .survey) (c .refused2 .ensures .0 ∙ e ∙ sym (head-clear 0 _ (recordFaults b (countOf b)) clear)) (rw (c .refused2 .ensures .0, c .before .enum-told2 .given .1) (c .refused2 .ensures .1))
 
 pub read-survey-spec : {M : Type 1} → statement M
 read-survey-spec =
