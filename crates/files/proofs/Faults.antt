@@ -1,18 +1,19 @@
 -- Laws of `firstFault` over the list of a file's faults by place. While none was met the list from the next place on is left;
 -- the first number that is not 0 is the answer, with its place.
-use Prim.Native.Nat.{ℕ, zero, suc, _+_, _≤_, _<_}
+use Prim.Native.Nat.{ℕ, zero, suc, _+_, _-_, _≤_, _<_}
 use mathlib.Core.Path.{_≡_, refl, ap, sym, _∙_}
 use mathlib.Core.List.{List, [], _∷_, _++_}
 use mathlib.Core.Bool.{Bool, true, false}
 use native.Mathlib.Numerals.{add-one}
 use native.Mathlib.Nat.{add-zero, add-suc, suc-add}
 use native.Mathlib.Omega.{arith}
-use lib.ListN.{length}
+use lib.ListN.{length, getD}
 use lib.Dec.{eqb}
-use borrow.Author.Tests.{eqb-true, eq-eqb, ne-eqb}
+use borrow.Author.Tests.{eqb-true, eqb-false, ne-eqb}
 use Rattle.rating.specs.Format.{choose}
 use Rattle.files.specs.Words.{each}
 use Rattle.files.specs.Reading.{firstFault, numberOf, placeOf}
+use Rattle.files.specs.declared.Refusal.{Refusal}
 use Rattle.files.specs.declared.Reading.{Reading}
 use Rattle.files.specs.declared.Reading.the-variants.{Taken, Refused}
 use Rattle.files.proofs.Each.{each-split, length-each}
@@ -52,10 +53,60 @@ module _ (fault : ℕ → ℕ) (place : ℕ) where
       let there : place + i ≡ i + place = omega arith in
       rw (split .1, skip place (each fault i) (fault i ∷ split .0) e, length-each fault i, there, at, ne-eqb number 0 h)
 
--- no fault in a list: none at its head, and none after
-taken-cons : (place n : ℕ) (ns : List ℕ) → firstFault place (n ∷ ns) ≡ Taken → (n ≡ 0) × (firstFault (suc place) ns ≡ Taken)
-taken-cons place n ns e = go (eqb n 0) refl e
+-- a list is taken exactly when none of it is a fault
+pub taken-none : (place : ℕ) (ns : List ℕ) → firstFault place ns ≡ Taken → (k : ℕ) → getD ns k 0 ≡ 0
+taken-none place [] e k = refl
+taken-none place (n ∷ ns) e k = go (eqb n 0) refl e k (taken-none (suc place) ns)
   where
-    go : (b : Bool) → eqb n 0 ≡ b → choose b (firstFault (suc place) ns) (refusal n place) ≡ Taken → (n ≡ 0) × (firstFault (suc place) ns ≡ Taken)
-    go true t f = (eqb-true n 0 t, f)
-    go false t f = absurd (refused-not n place f)
+    go : (b : Bool) → eqb n 0 ≡ b → choose b (firstFault (suc place) ns) (refusal n place) ≡ Taken → (k : ℕ) → (firstFault (suc place) ns ≡ Taken → (j : ℕ) → getD ns j 0 ≡ 0) → getD (n ∷ ns) k 0 ≡ 0
+    go true t f zero more = eqb-true n 0 t
+    go true t f (suc k) more = more f k
+    go false t f k more = absurd (refused-not n place f)
+
+pub none-taken : (place : ℕ) (fault : ℕ → ℕ) (n : ℕ) → ((i : ℕ) → i < n → fault i ≡ 0) → firstFault place (each fault n) ≡ Taken
+none-taken place fault zero h = refl
+none-taken place fault (suc n) h =
+    skip place (each fault n) (fault n ∷ []) (none-taken place fault n (λ i l. h i (omega arith))) ∙ rw (h n (omega arith))
+
+-- what a refusal says of the list, whose first place is `place`
+pub record FaultAt (place : ℕ) (ns : List ℕ) (r : Refusal) : Type 0 where
+  pub from : place ≤ r .place
+  pub below : r .place < place + length ns
+  -- the number is the fault at the place, and no place before it has one
+  pub number : getD ns (r .place - place) 0 ≡ r .number
+  pub fault : r .number ≡ 0 → ⊥
+  pub first : (k : ℕ) → k < r .place - place → getD ns k 0 ≡ 0
+
+pub refused-at : (place : ℕ) (ns : List ℕ) (r : Refusal) → firstFault place ns ≡ Refused r → FaultAt place ns r
+refused-at place [] r e = absurd (refused-not (r .number) (r .place) (sym e))
+refused-at place (n ∷ ns) r e = go (eqb n 0) refl e (refused-at (suc place) ns r)
+  where
+    go : (b : Bool) → eqb n 0 ≡ b → choose b (firstFault (suc place) ns) (refusal n place) ≡ Refused r → (firstFault (suc place) ns ≡ Refused r → FaultAt (suc place) ns r) → FaultAt place (n ∷ ns) r
+    go true t f more = later (more f) (eqb-true n 0 t)
+      where
+        later : FaultAt (suc place) ns r → n ≡ 0 → FaultAt place (n ∷ ns) r
+        later h z =
+            let from = h .from in
+            let step : r .place - place ≡ suc (r .place - suc place) = omega arith in
+            record
+              { from = omega arith
+              ; below = omega (arith, h .below)
+              ; number = rw step (h .number)
+              ; fault = h .fault
+              ; first = λ k l. before k (rw step at l)
+              }
+          where
+            before : (k : ℕ) → k < suc (r .place - suc place) → getD (n ∷ ns) k 0 ≡ 0
+            before zero l = z
+            before (suc k) l = h .first k (omega arith)
+    go false t f more =
+        let number = ap numberOf f in
+        let there = ap placeOf f in
+        let none : r .place - place ≡ 0 = omega arith in
+        record
+          { from = omega arith
+          ; below = omega arith
+          ; number = rw none number
+          ; fault = λ z. eqb-false n 0 t (number ∙ z)
+          ; first = λ k l. absurd (omega arith)
+          }

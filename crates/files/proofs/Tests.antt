@@ -59,6 +59,24 @@ none n ns e = go (eqb n 0) refl e
     go true t f = (eqb-true n 0 t, f)
     go false t f = (f, let z : eqb n 0 ≡ true = rw f in let z : _≡_ {A = ℕ} 0 1 = cc in absurd (omega arith))
 
+-- what holds of a test's number and of the row's first fault after it holds of the row's first fault
+pub first-is : (P : ℕ → Type 0) (n : ℕ) (test : Bool) (ns : List ℕ) → P n → P (firstOf ns) → P (firstOf (n unless test ∷ ns))
+first-is P n true ns h more = more
+first-is P n false ns h more = go (eqb n 0)
+  where
+    go : (b : Bool) → P (choose b (firstOf ns) n)
+    go true = more
+    go false = h
+
+-- one row of tests after another
+pub rows-is : (P : ℕ → Type 0) (n m : ℕ) → P n → P m → P (firstOf (n ∷ m ∷ []))
+rows-is P n m h k = go (eqb n 0) (eqb m 0) (eqb-true m 0)
+  where
+    go : (b d : Bool) → (d ≡ true → m ≡ 0) → P (choose b (choose d 0 m) n)
+    go true true e = rw (sym (e refl)) k
+    go true false e = k
+    go false d e = h
+
 -- a callee's answer, tested by `!`
 pub fails : {answer test : Bool} → answer ≡ test → not answer ≡ true → test ≡ false
 fails {answer} e t = sym e ∙ not-true answer t
