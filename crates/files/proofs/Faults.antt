@@ -5,7 +5,7 @@ use mathlib.Core.Path.{_≡_, refl, ap, sym, _∙_}
 use mathlib.Core.List.{List, [], _∷_, _++_}
 use mathlib.Core.Bool.{Bool, true, false}
 use native.Mathlib.Numerals.{add-one}
-use native.Mathlib.Nat.{add-zero, add-suc, suc-add}
+use native.Mathlib.Nat.{add-zero}
 use native.Mathlib.Omega.{arith}
 use lib.ListN.{length, getD}
 use lib.Dec.{eqb}
@@ -88,13 +88,13 @@ refused-at place (n ∷ ns) r e = go (eqb n 0) refl e (refused-at (suc place) ns
         later h z =
             let from = h .from in
             let step : r .place - place ≡ suc (r .place - suc place) = omega arith in
-            record
-              { from = omega arith
-              ; below = omega (arith, h .below)
-              ; number = rw step (h .number)
-              ; fault = h .fault
-              ; first = λ k l. before k (rw step at l)
-              }
+            record {
+              from = omega arith;
+              below = omega (arith, h .below);
+              number = rw step (h .number);
+              fault = h .fault;
+              first = λ k l. before k (rw step at l);
+            }
           where
             before : (k : ℕ) → k < suc (r .place - suc place) → getD (n ∷ ns) k 0 ≡ 0
             before zero l = z
@@ -103,10 +103,10 @@ refused-at place (n ∷ ns) r e = go (eqb n 0) refl e (refused-at (suc place) ns
         let number = ap numberOf f in
         let there = ap placeOf f in
         let none : r .place - place ≡ 0 = omega arith in
-        record
-          { from = omega arith
-          ; below = omega arith
-          ; number = rw none number
-          ; fault = λ z. eqb-false n 0 t (number ∙ z)
-          ; first = λ k l. absurd (omega arith)
-          }
+        record {
+          from = omega arith;
+          below = omega arith;
+          number = rw none number;
+          fault = λ z. eqb-false n 0 t (number ∙ z);
+          first = λ k l. absurd (omega arith);
+        }

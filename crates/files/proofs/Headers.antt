@@ -9,7 +9,7 @@ use lib.Dec.{eqb, leb}
 use borrow.Author.Tests.{eqb-true, eq-eqb, leb-true, le-leb}
 use Rattle.rating.specs.Format.{_‥_, In}
 use Rattle.files.specs.Words.{byteAt, wordAt}
-use Rattle.files.specs.Reading.{_unless_, firstOf, isIn}
+use Rattle.files.specs.Reading.{_unless_, isIn}
 use Rattle.files.specs.Header.{marked, headerFault}
 use Rattle.files.proofs.Tests.{both, in-range, range-in, passed, none, first-is}
 
@@ -32,12 +32,12 @@ module _ (letter header most size : ℕ) (bytes : List ℕ) where
       let second = none (2 unless marks) (3 unless counted ∷ 1 unless sized ∷ []) (first .1) in
       let third = none (3 unless counted) (1 unless sized ∷ []) (second .1) in
       let fourth = none (1 unless sized) [] (third .1) in
-      record
-        { long = leb-true _ _ (passed 1 long (omega arith) (first .0))
-        ; marks = passed 2 marks (omega arith) (second .0)
-        ; count = in-range (1 ‥ most) (byteAt bytes (header - 1)) (passed 3 counted (omega arith) (third .0))
-        ; sized = eqb-true _ _ (passed 1 sized (omega arith) (fourth .0))
-        }
+      record {
+        long = leb-true _ _ (passed 1 long (omega arith) (first .0));
+        marks = passed 2 marks (omega arith) (second .0);
+        count = in-range (1 ‥ most) (byteAt bytes (header - 1)) (passed 3 counted (omega arith) (third .0));
+        sized = eqb-true _ _ (passed 1 sized (omega arith) (fourth .0));
+      }
 
   pub header-clear : Headed letter header most size bytes → headerFault letter header most size bytes ≡ 0
   unfolding headerFault

@@ -1,7 +1,7 @@
 -- A member's record: which tests give which fault, and that a record without a fault is an allowed one.
-use Prim.Native.Nat.{ℕ, zero, suc, _+_, _≤_, _<_}
-use mathlib.Core.Path.{_≡_, refl, ap, sym, _∙_}
-use mathlib.Core.List.{List, [], _∷_}
+use Prim.Native.Nat.{ℕ, _+_, _<_}
+use mathlib.Core.Path.{_≡_, refl}
+use mathlib.Core.List.{[], _∷_}
 use mathlib.Core.Bool.{Bool, true, false, not, _&&_, _||_, and-assoc}
 use mathlib.Core.Logic.{_⊎_, inl, inr}
 use native.Mathlib.Numerals.{add-one}
@@ -10,7 +10,7 @@ use lib.Dec.{eqb, leb}
 use borrow.Author.Tests.{eqb-true, eq-eqb, ne-eqb, leb-true, le-leb}
 use Rattle.rating.specs.declared.record.Member.{Member}
 use Rattle.rating.specs.Fields.{KIND, SPECIES, SPAN, CODE, MU-A, MU-B, FIELDS, field}
-use Rattle.rating.specs.Format.{_‥_, In, choose, used, rangeOf, suits, AllowedMember}
+use Rattle.rating.specs.Format.{_‥_, In, used, rangeOf, suits, AllowedMember}
 use Rattle.files.specs.Reading.{_unless_, firstOf, isIn, all}
 use Rattle.files.specs.SurveyFile.{zeroed, within, codeFault, fieldFault, memberFault}
 use Rattle.files.proofs.Tests.{both, either, in-range, range-in, all-at, all-of, all-fails, passed, none, first-is, rows-is}
@@ -74,13 +74,13 @@ module _ (m : Member) where
       let ok = clear e in
       let code = codes (ok .0) in
       let good = both (leb (field m MU-A) (field m MU-B)) (all (within m) FIELDS) (ok .2) in
-      record
-        { kind = code .0
-        ; section = code .2
-        ; unused = λ f h u. eqb-true _ _ (either (used (field m KIND) (field m CODE) f) _ (all-at (zeroed m) FIELDS (ok .1) f h) u)
-        ; range = λ f h u. in-range _ _ (either (not (used (field m KIND) (field m CODE) f)) _ (all-at (within m) FIELDS (good .1) f h) (rw u))
-        ; ordered = leb-true _ _ (good .0)
-        }
+      record {
+        kind = code .0;
+        section = code .2;
+        unused = λ f h u. eqb-true _ _ (either (used (field m KIND) (field m CODE) f) _ (all-at (zeroed m) FIELDS (ok .1) f h) u);
+        range = λ f h u. in-range _ _ (either (not (used (field m KIND) (field m CODE) f)) _ (all-at (within m) FIELDS (good .1) f h) (rw u));
+        ordered = leb-true _ _ (good .0);
+      }
 
   -- an allowed record has no fault
   allowed-zeroed : AllowedMember m → (f : ℕ) → f < FIELDS → zeroed m f ≡ true

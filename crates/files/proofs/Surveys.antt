@@ -1,8 +1,8 @@
 -- Reading a survey, beside what the document allows: a file is taken exactly when it is allowed, the survey then holds the
 -- file's numbers, and a refusal has its number and its place.
 use Prim.Native.Nat.{ℕ, zero, suc, _+_, _-_, _*_, _≤_, _<_}
-use mathlib.Core.Path.{_≡_, refl, ap, sym, _∙_}
-use mathlib.Core.List.{List, [], _∷_, _++_}
+use mathlib.Core.Path.{_≡_, refl, sym, _∙_}
+use mathlib.Core.List.{List, _∷_}
 use mathlib.Core.Logic.{⊎-elim}
 use native.Mathlib.Omega.{arith}
 use lib.ListN.{length, getD, replicate}
@@ -10,7 +10,7 @@ use Rattle.rating.specs.declared.record.Member.{Member}
 use Rattle.rating.specs.declared.record.Survey.{Survey}
 use Rattle.rating.specs.Fields.{FIELDS, field}
 use Rattle.rating.specs.Format.{_‥_, In, AllowedMember}
-use Rattle.files.specs.Words.{wordAt, each}
+use Rattle.files.specs.Words.{wordAt}
 use Rattle.files.specs.SurveyFile.{MOST-MEMBERS, SURVEY-HEADER, RECORD, countOf, recordAt, surveyHeader, memberFault, recordFaults, surveyAnswer, blankMember, blankSurvey, surveyOf, surveyBy, readSurvey}
 use Rattle.files.specs.Allowed.{AllowedSurveyFile, SurveyRefusal}
 use Rattle.files.specs.declared.Refusal.{Refusal}
@@ -35,13 +35,13 @@ module _ (bytes : List ℕ) where
       let none = taken-none 0 (surveyHeader bytes ∷ recordFaults bytes (countOf bytes)) e in
       let h = headed 82 SURVEY-HEADER MOST-MEMBERS RECORD bytes (none 0) in
       let marks = marks-read bytes 82 (omega (arith, h .long)) (h .marks) in
-      record
-        { mark = marks .0
-        ; version = marks .1
-        ; count = h .count
-        ; size = h .sized
-        ; members = λ i l. clear-allowed (recordAt bytes i) (sym (getD-each (λ k. memberFault (recordAt bytes k)) (countOf bytes) i 0 l) ∙ none (suc i))
-        }
+      record {
+        mark = marks .0;
+        version = marks .1;
+        count = h .count;
+        size = h .sized;
+        members = λ i l. clear-allowed (recordAt bytes i) (sym (getD-each (λ k. memberFault (recordAt bytes k)) (countOf bytes) i 0 l) ∙ none (suc i));
+      }
 
   pub allowed-taken : AllowedSurveyFile bytes → readSurvey bytes .answer ≡ Taken
   unfolding readSurvey surveyAnswer

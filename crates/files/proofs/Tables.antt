@@ -1,19 +1,19 @@
 -- The program's tables against the definitions: a test that antt computes over a whole table, and the law that turns it into
 -- the rule at each entry. Each law holds of any table that passes its test.
-use Prim.Native.Nat.{ℕ, zero, suc, _+_, _-_, _*_, _≤_, _<_}
-use mathlib.Core.Path.{_≡_, refl, ap, sym, _∙_}
+use Prim.Native.Nat.{ℕ, suc, _+_, _-_, _*_, _≤_, _<_}
+use mathlib.Core.Path.{_≡_, refl, sym}
 use mathlib.Core.List.{List, [], _∷_}
 use mathlib.Core.Bool.{Bool, true, false, not, _&&_, _||_, Bool·beq, and-true, Bool·not-not}
 use native.Mathlib.Omega.{arith}
 use lib.ListN.{getD}
 use lib.Dec.{eqb, leb}
-use borrow.Author.Tests.{eqb-true, ne-eqb, lt-leb, eq-eqb, le-leb}
+use borrow.Author.Tests.{eqb-true}
 use Rattle.rating.specs.declared.record.Member.{Member}
 use Rattle.rating.specs.Fields.{KIND, SPECIES, CODE, field}
 use Rattle.rating.specs.Format.{Range, _‥_, In, choose, used, unusedByKind, unusedByCode, holds, rangeOf, ranges, suits, bending}
 use Rattle.files.specs.Reading.{all, isIn}
 use Rattle.files.specs.SurveyFile.{within}
-use Rattle.files.proofs.Tests.{all-at, both, either}
+use Rattle.files.proofs.Tests.{all-at, either}
 
 -- a code that suits a kind is one of the four
 pub suits-code : (kind code : ℕ) → suits kind code ≡ true → In (1 ‥ 4) code

@@ -1,8 +1,9 @@
 -- Laws of tests: of a range, of every index below a number, and of the first fault of a row of tests.
-use Prim.Native.Nat.{ℕ, zero, suc, _+_, _≤_, _<_}
-use mathlib.Core.Path.{_≡_, refl, ap, sym, _∙_}
+use Prim.Native.Nat.{ℕ, zero, suc, _<_}
+use mathlib.Core.Path.{_≡_, refl, sym, _∙_}
 use mathlib.Core.List.{List, [], _∷_}
 use mathlib.Core.Bool.{Bool, true, false, not, _&&_, _||_}
+use mathlib.Core.Logic.{_⊎_, inl, inr}
 use native.Mathlib.Omega.{arith}
 use native.Mathlib.Decide.{decLt}
 use lib.Dec.{eqb, leb}
@@ -50,6 +51,11 @@ module _ (test : ℕ → Bool) where
 pub passed : (n : ℕ) (test : Bool) → 0 < n → n unless test ≡ 0 → test ≡ true
 passed n true h e = refl
 passed n false h e = absurd (omega arith)
+
+-- a test has no fault, or its own
+pub none-or : (n : ℕ) (test : Bool) → (n unless test ≡ 0) ⊎ (n unless test ≡ n)
+none-or n true = inl refl
+none-or n false = inr refl
 
 -- no fault in a row of tests: none at its head, and none after
 pub none : (n : ℕ) (ns : List ℕ) → firstOf (n ∷ ns) ≡ 0 → (n ≡ 0) × (firstOf ns ≡ 0)

@@ -1,16 +1,16 @@
 -- Reading a vehicle, beside what the document allows: a file is taken exactly when it is allowed, the vehicle then holds the
 -- file's numbers, and a refusal has its number and its place.
 use Prim.Native.Nat.{ℕ, zero, suc, _+_, _-_, _*_, _≤_, _<_}
-use mathlib.Core.Path.{_≡_, refl, ap, sym, _∙_}
-use mathlib.Core.List.{List, [], _∷_, _++_}
+use mathlib.Core.Path.{_≡_, refl, sym, _∙_}
+use mathlib.Core.List.{List, [], _∷_}
 use mathlib.Core.Logic.{_⊎_, inl, inr, ⊎-elim}
-use mathlib.Core.Bool.{_&&_, true}
+use mathlib.Core.Bool.{_&&_}
 use native.Mathlib.Omega.{arith}
 use lib.ListN.{length, getD, replicate}
 use borrow.Author.Tests.{ne-eqb}
 use Rattle.rating.specs.declared.record.Vehicle.{Vehicle}
 use Rattle.rating.specs.Format.{_‥_, In, AllowedVehicle}
-use Rattle.files.specs.Words.{wordAt, each}
+use Rattle.files.specs.Words.{wordAt}
 use Rattle.files.specs.Reading.{_unless_, isIn}
 use Rattle.files.specs.Header.{headerFault}
 use Rattle.files.specs.VehicleFile.{MOST-AXLES, VEHICLE-HEADER, AXLE, axlesOf, classOf, trackOf, weightAt, distanceAt, axleRange, vehicleHeader, axleWithin, axleFault, axleFaults, vehicleAnswer, blankVehicle, vehicleOf, vehicleBy, readVehicle}
@@ -19,7 +19,7 @@ use Rattle.files.specs.declared.Refusal.{Refusal}
 use Rattle.files.specs.declared.Reading.{Reading}
 use Rattle.files.specs.declared.Reading.the-variants.{Taken, Refused}
 use Rattle.files.specs.declared.VehicleRead.{VehicleRead}
-use Rattle.files.proofs.Tests.{both, in-range, range-in, passed, none, first-is, rows-is}
+use Rattle.files.proofs.Tests.{both, in-range, range-in, passed, none, none-or, rows-is}
 use Rattle.files.proofs.Each.{length-each, getD-each, getD-padded}
 use Rattle.files.proofs.Faults.{head-clear, taken-none, none-taken, FaultAt, refused-at}
 use Rattle.files.proofs.Headers.{Headed, headed, header-clear, header-number, marks-read, marks-given}
@@ -38,11 +38,11 @@ fronted bytes e =
     let first = none (headerFault 86 VEHICLE-HEADER MOST-AXLES AXLE bytes) (7 unless (class && track) ∷ []) e in
     let second = none (7 unless (class && track)) [] (first .1) in
     let good = both class track (passed 7 (class && track) (omega arith) (second .0)) in
-    record
-      { head = headed 86 VEHICLE-HEADER MOST-AXLES AXLE bytes (first .0)
-      ; class = in-range (0 ‥ 1) (classOf bytes) (good .0)
-      ; track = in-range (100 ‥ 300) (trackOf bytes) (good .1)
-      }
+    record {
+      head = headed 86 VEHICLE-HEADER MOST-AXLES AXLE bytes (first .0);
+      class = in-range (0 ‥ 1) (classOf bytes) (good .0);
+      track = in-range (100 ‥ 300) (trackOf bytes) (good .1);
+    }
 
 pub front-clear : (bytes : List ℕ) → Fronted bytes → vehicleHeader bytes ≡ 0
 unfolding vehicleHeader
@@ -82,14 +82,14 @@ module _ (bytes : List ℕ) where
   clear-vehicle : Fronted bytes → ((i : ℕ) → i < axlesOf bytes → axleFault bytes i ≡ 0) → AllowedVehicle (vehicleOf bytes)
   clear-vehicle h clear =
       let count = h .head .count in
-      record
-        { class = h .class
-        ; track = h .track
-        ; axles = count
-        ; weight = λ i l. rw (weight-is i l) (axle-ranges bytes i (clear i l) .0)
-        ; first = rw (distance-is 0 (omega arith)) (omega (arith, axle-ranges bytes 0 (clear 0 (omega arith)) .1))
-        ; distance = λ i z l. rw (distance-is i l) (rw (later-range i z) at (axle-ranges bytes i (clear i l) .1))
-        }
+      record {
+        class = h .class;
+        track = h .track;
+        axles = count;
+        weight = λ i l. rw (weight-is i l) (axle-ranges bytes i (clear i l) .0);
+        first = rw (distance-is 0 (omega arith)) (omega (arith, axle-ranges bytes 0 (clear 0 (omega arith)) .1));
+        distance = λ i z l. rw (distance-is i l) (rw (later-range i z) at (axle-ranges bytes i (clear i l) .1));
+      }
 
   vehicle-clear : AllowedVehicle (vehicleOf bytes) → (i : ℕ) → i < axlesOf bytes → axleFault bytes i ≡ 0
   vehicle-clear a zero l =
@@ -105,12 +105,12 @@ module _ (bytes : List ℕ) where
       let none = taken-none 0 (vehicleHeader bytes ∷ axleFaults bytes (axlesOf bytes)) e in
       let h = fronted bytes (none 0) in
       let marks = marks-read bytes 86 (omega (arith, h .head .long)) (h .head .marks) in
-      record
-        { mark = marks .0
-        ; version = marks .1
-        ; size = h .head .sized
-        ; vehicle = clear-vehicle h (λ i l. sym (getD-each (axleFault bytes) (axlesOf bytes) i 0 l) ∙ none (suc i))
-        }
+      record {
+        mark = marks .0;
+        version = marks .1;
+        size = h .head .sized;
+        vehicle = clear-vehicle h (λ i l. sym (getD-each (axleFault bytes) (axlesOf bytes) i 0 l) ∙ none (suc i));
+      }
 
   pub allowed-taken : AllowedVehicleFile bytes → readVehicle bytes .answer ≡ Taken
   unfolding readVehicle vehicleAnswer
@@ -143,3 +143,31 @@ module _ (bytes : List ℕ) where
   pub refused-first : (r : Refusal) → readVehicle bytes .answer ≡ Refused r → FaultAt 0 (vehicleHeader bytes ∷ axleFaults bytes (axlesOf bytes)) r
   unfolding readVehicle vehicleAnswer
   refused-first r e = refused-at 0 (vehicleHeader bytes ∷ axleFaults bytes (axlesOf bytes)) r e
+
+  -- the header's number is 1, 2 or 3, or 7 for class or track
+  front-number : (vehicleHeader bytes ≤ 3) ⊎ (vehicleHeader bytes ≡ 7)
+  unfolding vehicleHeader
+  front-number =
+      let good = isIn (0 ‥ 1) (classOf bytes) && isIn (100 ‥ 300) (trackOf bytes) in
+      rows-is (λ n. (n ≤ 3) ⊎ (n ≡ 7)) (headerFault 86 VEHICLE-HEADER MOST-AXLES AXLE bytes) (7 unless good) (inl (header-number 86 VEHICLE-HEADER MOST-AXLES AXLE bytes))
+      (⊎-elim (λ z. inl (omega arith)) (λ s. inr s) (none-or 7 good))
+
+  refusal-at : (r : Refusal) (p : ℕ) → r .place ≡ p → FaultAt 0 (vehicleHeader bytes ∷ axleFaults bytes (axlesOf bytes)) r → VehicleRefusal bytes r
+  refusal-at r zero e h =
+      let same : r .place - 0 ≡ 0 = omega arith in
+      let at : vehicleHeader bytes ≡ r .number = rw same at (h .number) in
+      record {
+        number = ⊎-elim (λ l. inl (omega (arith, h .fault))) (λ s. inr (sym at ∙ s)) front-number;
+        header = λ l. e;
+        place = omega arith;
+      }
+  refusal-at r (suc i) e h =
+      let step : r .place - 0 ≡ suc i = omega arith in
+      let within : i < axlesOf bytes = omega (arith, h .below, length-each (axleFault bytes) (axlesOf bytes)) in
+      let at : axleFault bytes i ≡ r .number = sym (getD-each (axleFault bytes) (axlesOf bytes) i 0 within) ∙ (rw step at (h .number)) in
+      let seven : r .number ≡ 7 = ⊎-elim (λ z. absurd (h .fault (sym at ∙ z))) (λ s. sym at ∙ s) (none-or 7 (axleWithin bytes i)) in
+      record { number = inr seven; header = λ l. absurd (omega arith); place = omega arith }
+
+  -- its number and its place
+  pub refused-number : (r : Refusal) → readVehicle bytes .answer ≡ Refused r → VehicleRefusal bytes r
+  refused-number r e = refusal-at r (r .place) refl (refused-first r e)

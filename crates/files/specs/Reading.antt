@@ -1,7 +1,7 @@
 -- The answer of a reading, and the order of its tests. A test that fails is a number of document 01, 'Calls'; 0 is none.
 use Prim.Native.Nat.{ℕ, zero, suc}
 use mathlib.Core.List.{List, [], _∷_}
-use mathlib.Core.Bool.{Bool, true, false, _&&_}
+use mathlib.Core.Bool.{Bool, true, _&&_}
 use lib.Dec.{eqb, leb}
 use Rattle.rating.specs.Format.{Range, choose}
 use Rattle.files.specs.declared.Reading.{Reading}

@@ -1,6 +1,7 @@
 // The head of a file: mark, version, count of records and length.
 use crate::ranges::inside;
-use crate::words::{wide, word_at};
+use crate::words::wide;
+use crate::words::word_at;
 ghost use mathlib.Core.Path.{_≡_};
 ghost use Prim.Native.Nat.{_≤_};
 ghost use lib.ListN.{length};

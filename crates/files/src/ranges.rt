@@ -4,7 +4,7 @@ use rating::record::S1;
 use rating::record::S6;
 ghost use mathlib.Core.Path.{_≡_};
 ghost use mathlib.Core.Bool.{true};
-ghost use Prim.Native.Nat.{_≤_, _<_};
+ghost use Prim.Native.Nat.{_<_};
 ghost use Rattle.rating.specs.Fields.{FIELDS};
 ghost use Rattle.rating.specs.Format.{_‥_, In, used, distanceRange, rangeOf, suits};
 ghost use Rattle.files.specs.Reading.{isIn};

@@ -8,6 +8,8 @@ use crate::member::is_within;
 use crate::member::is_zeroed;
 use crate::words::wide;
 use crate::words::words;
+use rating::record::FIELDS;
+use rating::record::MOST_MEMBERS;
 use rating::record::MU_A;
 use rating::record::MU_B;
 use rating::record::Member;
@@ -25,10 +27,6 @@ const HEADER: usize = 6;
 
 // Sixteen words.
 const RECORD: usize = 32;
-
-const FIELDS: usize = 16;
-
-const MOST_MEMBERS: u16 = 64;
 
 fn record_at(bytes: &[u8], i: usize) -> Member
     requires { ⌜ SURVEY-HEADER + RECORD * (i + 1) ≤ length (now bytes) ⌝ }
@@ -76,19 +74,22 @@ fn first_fault(bytes: &[u8], count: usize) -> Reading
 fn blank_member() -> Member
     ensures { λ r. ⌜ r ≡ blankMember ⌝ }
 {
-    Member { fields: [0u16; 16] }
+    Member {
+        fields: [0u16; FIELDS],
+    }
 }
 
 // The records, and blank ones after them.
-fn members_of(bytes: &[u8], count: usize) -> [Member; 64]
+fn members_of(bytes: &[u8], count: usize) -> [Member; MOST_MEMBERS]
     requires { ⌜ (count ≤ MOST-MEMBERS) × (SURVEY-HEADER + RECORD * count ≤ length (now bytes)) ⌝ }
     ensures { λ r. ⌜ r ≡ each (recordAt (now (bytes .entry))) count ++ replicate (MOST-MEMBERS - count) blankMember ⌝ }
 {
     let blank = blank_member();
-    let mut members = [blank; 64];
+    let mut members = [blank; MOST_MEMBERS];
     let mut i: usize = 0;
     while i < count {
-        members[i] = record_at(bytes, i);
+        let m = record_at(bytes, i);
+        members[i] = m;
         i += 1;
     }
     members
@@ -100,7 +101,7 @@ fn refused(answer: Reading) -> SurveyRead
     let blank = blank_member();
     let survey = Survey {
         count: 0,
-        members: [blank; 64],
+        members: [blank; MOST_MEMBERS],
     };
     SurveyRead { answer, survey }
 }
@@ -109,7 +110,7 @@ fn refused(answer: Reading) -> SurveyRead
 pub fn read_survey(bytes: &[u8]) -> SurveyRead
     ensures { λ r. ⌜ r ≡ readSurvey (now (bytes .entry)) ⌝ }
 {
-    let number = header_fault(bytes, b'R', HEADER, MOST_MEMBERS, RECORD);
+    let number = header_fault(bytes, b'R', HEADER, MOST_MEMBERS as u16, RECORD);
     if number != 0 {
         return refused(Reading::Refused(Refusal { number, place: 0 }));
     }

@@ -1,8 +1,13 @@
 // Reading a vehicle file: the header's tests with class and track, then the first fault in the order of axles.
+use crate::Reading;
+use crate::Refusal;
+use crate::VehicleRead;
 use crate::header::header_fault;
 use crate::ranges::inside;
-use crate::words::{wide, word_at, words};
-use crate::{Reading, Refusal, VehicleRead};
+use crate::words::wide;
+use crate::words::word_at;
+use crate::words::words;
+use rating::record::MOST_AXLES;
 use rating::record::Vehicle;
 ghost use mathlib.Core.Path.{_≡_};
 ghost use Prim.Native.Nat.{_+_, _*_, _≤_};
@@ -17,8 +22,6 @@ const HEADER: usize = 9;
 // Weight and distance.
 const AXLE: usize = 4;
 
-const MOST_AXLES: u16 = 16;
-
 const MOST_WEIGHT: u16 = 60000;
 
 const MOST_DISTANCE: u16 = 2000;
@@ -27,7 +30,7 @@ const MOST_DISTANCE: u16 = 2000;
 fn vehicle_header(bytes: &[u8]) -> u64
     ensures { λ r. ⌜ r ≡ vehicleHeader (now (bytes .entry)) ⌝ }
 {
-    let number = header_fault(bytes, b'V', HEADER, MOST_AXLES, AXLE);
+    let number = header_fault(bytes, b'V', HEADER, MOST_AXLES as u16, AXLE);
     if number != 0 {
         return number;
     }
@@ -83,12 +86,12 @@ fn wider(word: u16) -> u32
 }
 
 // The same numbers as u32.
-fn widened(row: [u16; 16]) -> [u32; 16]
+fn widened(row: [u16; MOST_AXLES]) -> [u32; MOST_AXLES]
     ensures { λ r. ⌜ r ≡ each (λ i. getD row i 0) MOST-AXLES ⌝ }
 {
-    let mut out = [0u32; 16];
+    let mut out = [0u32; MOST_AXLES];
     let mut i: usize = 0;
-    while i < 16 {
+    while i < MOST_AXLES {
         out[i] = wider(row[i]);
         i += 1;
     }
@@ -119,8 +122,8 @@ fn refused(answer: Reading) -> VehicleRead
         class: 0,
         track: 0,
         axles: 0,
-        weights: [0u32; 16],
-        distances: [0u16; 16],
+        weights: [0u32; MOST_AXLES],
+        distances: [0u16; MOST_AXLES],
     };
     VehicleRead { answer, vehicle }
 }

@@ -37,15 +37,22 @@ pub const MU_A: usize = 14;
 
 pub const MU_B: usize = 15;
 
+pub const FIELDS: usize = 16;
+
+// The most members of a survey, and the most axles of a vehicle.
+pub const MOST_MEMBERS: usize = 64;
+
+pub const MOST_AXLES: usize = 16;
+
 // The sixteen numbers of a member's record.
 pub struct Member {
-    pub fields: [u16; 16],
+    pub fields: [u16; FIELDS],
 }
 
 // The members of a bridge, of which the first `count` are used.
 pub struct Survey {
     pub count: usize,
-    pub members: [Member; 64],
+    pub members: [Member; MOST_MEMBERS],
 }
 
 // A lorry: class, track in cm, and of the first `axles` axles the weight in kgf and the distance in cm from the axle in
@@ -54,8 +61,8 @@ pub struct Vehicle {
     pub class: u8,
     pub track: u16,
     pub axles: usize,
-    pub weights: [u32; 16],
-    pub distances: [u16; 16],
+    pub weights: [u32; MOST_AXLES],
+    pub distances: [u16; MOST_AXLES],
 }
 
 impl Member {

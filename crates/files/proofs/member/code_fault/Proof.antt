@@ -6,8 +6,6 @@ use Rattle.files.proofs.Tables.{species-test}
 use Rattle.files.proofs.member.code_fault.Statement.{statement}
 use Rattle.files.proofs.member.code_fault.Tie as tie
 
--- `code_fault` meets its contract: the tests that led to each answer say which of `codeFault`'s failed first.
-
 element-copy-out-kind : tie.Need-element-copy-out-kind
 element-copy-out-kind c = search needs
 

@@ -1,13 +1,10 @@
 -- `is_used` meets its contract: the two tables pass the test that they agree with `used`.
-use mathlib.Core.Path.{refl}
 use native.Mathlib.Omega.{arith}
 use borrow.Author.Needs.{needs}
 use Rattle.rating.specs.Format.{used, unusedByKind, unusedByCode, suits, bending}
 use Rattle.files.proofs.Tables.{suits-code, used-entry}
 use Rattle.files.proofs.ranges.is_used.Statement.{statement}
 use Rattle.files.proofs.ranges.is_used.Tie as tie
-
--- `is_used` meets its contract: the two tables pass the test that they agree with `used`.
 
 sub-row : tie.Need-sub-row
 sub-row c = search needs

@@ -1,6 +1,6 @@
 -- `limits_of` meets its contract: x has its own rule, and each table passes the test that it agrees with `rangeOf`.
-use Prim.Native.Nat.{ℕ, _≤_, _<_}
-use mathlib.Core.Path.{_≡_, refl}
+use Prim.Native.Nat.{_≤_, _<_}
+use mathlib.Core.Path.{_≡_}
 use mathlib.Core.Bool.{false, and-false}
 use mathlib.Core.Logic.{⊎-elim}
 use native.Mathlib.Omega.{arith}
@@ -11,12 +11,6 @@ use Rattle.rating.specs.Format.{rangeOf, ranges, sectionRange, sectionRanges}
 use Rattle.files.proofs.Tables.{suits-code, section-entry, plain-entry, ruled}
 use Rattle.files.proofs.ranges.limits_of.Statement.{statement}
 use Rattle.files.proofs.ranges.limits_of.Tie as tie
-
--- `limits_of` meets its contract: x has its own rule, and each table passes the test that it agrees with `rangeOf`.
-
--- `limits_of` meets its contract: x has its own rule, and each table passes the test that it agrees with `rangeOf`.
-
--- `limits_of` meets its contract: x has its own rule, and each table passes the test that it agrees with `rangeOf`.
 
 distance-limits-requires : tie.Need-distance-limits-requires
 distance-limits-requires c κs = search needs

@@ -1,6 +1,6 @@
 -- `first_fault` meets its contract. The records' invariant: none of the first i records has a fault. The fields' invariant: of
 -- the first f fields the unused ones are 0, and `good` says whether the used ones are in range and A is at most B.
-use Prim.Native.Nat.{ℕ, _+_, _-_, _≤_, _<_}
+use Prim.Native.Nat.{ℕ, _-_, _≤_}
 use mathlib.Core.Path.{_≡_, refl, sym, ap, _∙_}
 use mathlib.Core.List.{List}
 use mathlib.Core.Bool.{true, and-true}
@@ -9,7 +9,7 @@ use native.Mathlib.Omega.{arith}
 use Rattle.rating.specs.Fields.{FIELDS}
 use Rattle.files.specs.Words.{each}
 use Rattle.files.specs.Reading.{firstFault, all}
-use Rattle.files.specs.SurveyFile.{recordAt, memberFault, zeroed, within}
+use Rattle.files.specs.SurveyFile.{recordAt, memberFault, zeroed}
 use Rattle.files.specs.declared.Reading.the-variants.{Taken}
 use Rattle.files.proofs.Tests.{fails, holds}
 use Rattle.files.proofs.Faults.{clear-more, fault-at}

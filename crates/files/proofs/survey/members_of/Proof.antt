@@ -1,19 +1,17 @@
 -- `members_of` meets its contract. The invariant: the array holds the first i records, and blank ones after them.
-use Prim.Native.Nat.{ℕ, _+_, _*_, _-_, _≤_, _<_}
-use mathlib.Core.Path.{_≡_, refl}
-use mathlib.Core.List.{List, _++_}
+use Prim.Native.Nat.{_-_, _≤_}
+use mathlib.Core.Path.{_≡_}
+use mathlib.Core.List.{_++_}
 use native.Mathlib.Omega.{arith}
-use lib.ListN.{length, set, replicate}
+use lib.ListN.{replicate}
 use Rattle.files.specs.Words.{each}
-use Rattle.files.specs.SurveyFile.{recordAt, blankMember}
+use Rattle.files.specs.SurveyFile.{MOST-MEMBERS, recordAt, blankMember}
 use Rattle.files.proofs.Each.{store-each}
 use Rattle.files.proofs.survey.members_of.Statement.{statement}
 use Rattle.files.proofs.survey.members_of.Tie as tie
 
--- `members_of` meets its contract. The invariant: the array holds the first i records, and blank ones after them.
-
 abbrev Inv-loop : tie.InvT-loop
-Inv-loop bytes count members₀ i₀ members i = (i ≤ count) × (members ≡ each (recordAt bytes) i ++ replicate (64 - i) blankMember)
+Inv-loop bytes count members₀ i₀ members i = (i ≤ count) × (members ≡ each (recordAt bytes) i ++ replicate (MOST-MEMBERS - i) blankMember)
 
 abbrev μ-loop : tie.MeasureT-loop
 μ-loop bytes count members₀ i₀ members i = count - i
@@ -42,7 +40,7 @@ loop-less c = omega arith
 loop-again : tie.Need-loop-again Inv-loop μ-loop
 loop-again c =
     let i = c .before .before .loop .i in
-    (omega arith, rw (c .before .before .loop .inv .1, c .record-at .ensures) (store-each (recordAt (c .before .before .before .before .before .args .bytes .now)) 64 i blankMember (omega arith)))
+    (omega arith, rw (c .before .before .loop .inv .1, c .record-at .ensures) (store-each (recordAt (c .before .before .before .before .before .args .bytes .now)) MOST-MEMBERS i blankMember (omega arith)))
 
 returns : tie.Need-returns Inv-loop μ-loop
 returns c = let e : c .before .loop .i ≡ c .before .before .before .before .args .count = omega arith in rw e at (c .before .loop .inv .1)

@@ -1,20 +1,18 @@
 -- `read_survey` meets its contract: a fault of the header is the answer, else the records' first fault is, and the survey is
 -- the one that belongs to the answer.
-use Prim.Native.Nat.{ℕ, _+_, _*_, _≤_, _<_}
-use mathlib.Core.Path.{_≡_, refl, sym, ap, _∙_}
+use mathlib.Core.Path.{sym, _∙_}
 use native.Mathlib.Omega.{arith}
-use lib.ListN.{length}
 use borrow.Author.Needs.{needs}
 use denote.Ref.{now}
-use Rattle.files.specs.SurveyFile.{countOf, recordFaults, surveyAnswer}
+use Rattle.files.specs.SurveyFile.{MOST-MEMBERS, SURVEY-HEADER, RECORD, countOf, recordFaults, surveyAnswer}
 use Rattle.files.proofs.Headers.{headed}
 use Rattle.files.proofs.Faults.{head-first, head-clear}
 use Rattle.files.proofs.Surveys.{read-as}
 use Rattle.files.proofs.survey.read_survey.Statement.{statement}
 use Rattle.files.proofs.survey.read_survey.Tie as tie
 
--- `read_survey` meets its contract: a fault of the header is the answer, else the records' first fault is, and the survey is
--- the one that belongs to the answer.
+cast-header-fault : tie.Need-cast-header-fault
+cast-header-fault c = search needs
 
 header-fault-requires : tie.Need-header-fault-requires
 header-fault-requires c κs = search needs
@@ -30,7 +28,7 @@ returns c =
     read-as b (c .refused .result .answer) (c .refused .result .survey) e (rw (c .refused .ensures .0) (c .refused .ensures .1))
 
 shared-slice-read-wide : tie.Need-shared-slice-read-wide
-shared-slice-read-wide c = let h = headed 82 6 64 32 (now (c .before .before .before .before .args .bytes)) (sym (c .before .before .header-fault .ensures) ∙ c .before .if1 .left) in omega (arith, h .sized)
+shared-slice-read-wide c = let h = headed 82 SURVEY-HEADER MOST-MEMBERS RECORD (now (c .before .before .before .before .args .bytes)) (sym (c .before .before .header-fault .ensures) ∙ c .before .if1 .left) in omega (arith, h .sized)
 
 wide-requires : tie.Need-wide-requires
 wide-requires c κs = search needs
@@ -39,14 +37,14 @@ cast-count : tie.Need-cast-count
 cast-count c = search needs
 
 first-fault-requires : tie.Need-first-fault-requires
-first-fault-requires c κs = let h = headed 82 6 64 32 (now (c .before .before .before .before .before .args .bytes)) (sym (c .before .before .before .header-fault .ensures) ∙ c .before .before .if1 .left) in omega (arith, h .sized, c .wide .ensures .0)
+first-fault-requires c κs = let h = headed 82 SURVEY-HEADER MOST-MEMBERS RECORD (now (c .before .before .before .before .before .args .bytes)) (sym (c .before .before .before .header-fault .ensures) ∙ c .before .before .if1 .left) in omega (arith, h .sized, c .wide .ensures .0)
 
 enum-told : tie.Need-enum-told
 enum-told c = search needs
 
 members-of-requires : tie.Need-members-of-requires
 members-of-requires c κs =
-    let h = headed 82 6 64 32 (now (c .before .before .before .before .before .before .before .before .args .bytes)) (sym (c .before .before .before .before .before .before .header-fault .ensures) ∙ c .before .before .before .before .before .if1 .left) in
+    let h = headed 82 SURVEY-HEADER MOST-MEMBERS RECORD (now (c .before .before .before .before .before .before .before .before .args .bytes)) (sym (c .before .before .before .before .before .before .header-fault .ensures) ∙ c .before .before .before .before .before .if1 .left) in
     let w = c .before .before .before .wide .ensures .0 in
     (omega (arith, h .count, w), omega (arith, h .sized, w))
 
@@ -78,6 +76,7 @@ pub read-survey-spec : {M : Type 1} → statement M
 read-survey-spec =
     tie.close
     (tie.spec
+    cast-header-fault
     header-fault-requires
     refused-requires
     returns

@@ -1,5 +1,4 @@
 -- `record_at` meets its contract: the sixteen words fill the row.
-use mathlib.Core.Path.{refl}
 use mathlib.Core.List.{append-nil}
 use borrow.Author.Needs.{needs}
 use Rattle.files.proofs.survey.record_at.Statement.{statement}

@@ -5,8 +5,6 @@ use Rattle.files.specs.VehicleFile.{axleWithin}
 use Rattle.files.proofs.vehicle.axle_within.Statement.{statement}
 use Rattle.files.proofs.vehicle.axle_within.Tie as tie
 
--- `axle_within` meets its contract: the words and the tests of their ranges are the callees'.
-
 mul-word-at : tie.Need-mul-word-at
 mul-word-at c = search needs
 

@@ -1,5 +1,5 @@
 -- `first_fault` meets its contract. The invariant: none of the first i axles has a fault.
-use Prim.Native.Nat.{ℕ, _+_, _-_, _≤_, _<_}
+use Prim.Native.Nat.{_-_, _≤_}
 use mathlib.Core.Path.{_≡_, refl, sym, ap, _∙_}
 use mathlib.Core.Bool.{Bool}
 use native.Mathlib.Omega.{arith}
@@ -11,8 +11,6 @@ use Rattle.files.proofs.Tests.{fails, holds}
 use Rattle.files.proofs.Faults.{clear-more, fault-at}
 use Rattle.files.proofs.vehicle.first_fault.Statement.{statement}
 use Rattle.files.proofs.vehicle.first_fault.Tie as tie
-
--- `first_fault` meets its contract. The invariant: none of the first i axles has a fault.
 
 abbrev Inv-axles : tie.InvT-axles
 Inv-axles bytes axles answer₀ i₀ answer i = (i ≤ axles) × (answer ≡ Taken) × (firstFault 1 (each (axleFault bytes) i) ≡ Taken)

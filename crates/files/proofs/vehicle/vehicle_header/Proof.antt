@@ -5,12 +5,13 @@ use native.Mathlib.Omega.{arith}
 use borrow.Author.Needs.{needs}
 use borrow.Author.Tests.{ne-eqb, not-true, not-false}
 use denote.Ref.{now}
-use Rattle.files.specs.VehicleFile.{vehicleHeader}
+use Rattle.files.specs.VehicleFile.{MOST-AXLES, VEHICLE-HEADER, AXLE, vehicleHeader}
 use Rattle.files.proofs.Headers.{headed}
 use Rattle.files.proofs.vehicle.vehicle_header.Statement.{statement}
 use Rattle.files.proofs.vehicle.vehicle_header.Tie as tie
 
--- `vehicle_header` meets its contract: the header's fault is the callee's, then class and track are tested.
+cast-header-fault : tie.Need-cast-header-fault
+cast-header-fault c = search needs
 
 header-fault-requires : tie.Need-header-fault-requires
 header-fault-requires c κs = search needs
@@ -20,7 +21,7 @@ unfolding vehicleHeader
 returns c = rw (← c .before .header-fault .ensures, ne-eqb _ _ (c .if1 .taken))
 
 shared-slice-read-wide : tie.Need-shared-slice-read-wide
-shared-slice-read-wide c = let b = c .before .before in omega (arith, headed 86 9 16 4 (now (b .before .before .args .bytes)) (sym (b .header-fault .ensures) ∙ c .before .if1 .left) .long)
+shared-slice-read-wide c = let b = c .before .before in omega (arith, headed 86 VEHICLE-HEADER MOST-AXLES AXLE (now (b .before .before .args .bytes)) (sym (b .header-fault .ensures) ∙ c .before .if1 .left) .long)
 
 wide-requires : tie.Need-wide-requires
 wide-requires c κs = search needs
@@ -29,7 +30,7 @@ inside-requires : tie.Need-inside-requires
 inside-requires c κs = search needs
 
 word-at-requires : tie.Need-word-at-requires
-word-at-requires c κs = let b = c .before .before .before .before in omega (arith, headed 86 9 16 4 (now (b .before .before .args .bytes)) (sym (b .header-fault .ensures) ∙ c .before .before .before .if1 .left) .long)
+word-at-requires c κs = let b = c .before .before .before .before in omega (arith, headed 86 VEHICLE-HEADER MOST-AXLES AXLE (now (b .before .before .args .bytes)) (sym (b .header-fault .ensures) ∙ c .before .before .before .if1 .left) .long)
 
 inside-requires-2 : tie.Need-inside-requires-2
 inside-requires-2 c κs = search needs
@@ -52,6 +53,7 @@ pub vehicle-header-spec : {M : Type 1} → statement M
 vehicle-header-spec =
     tie.close
     (tie.spec
+    cast-header-fault
     header-fault-requires
     returns
     shared-slice-read-wide

@@ -3,7 +3,7 @@ use mathlib.Core.Path.{_∙_}
 use native.Mathlib.Omega.{arith}
 use borrow.Author.Needs.{needs}
 use denote.Ref.{now}
-use Rattle.files.specs.VehicleFile.{weightAt}
+use Rattle.files.specs.VehicleFile.{MOST-AXLES, weightAt}
 use Rattle.files.proofs.Each.{length-padded, each-own}
 use Rattle.files.proofs.vehicle.vehicle_of.Statement.{statement}
 use Rattle.files.proofs.vehicle.vehicle_of.Tie as tie
@@ -30,7 +30,7 @@ returns : tie.Need-returns
 returns c =
     let a = c .before .before .before .before .before .before in
     let row = c .before .before .words .ensures in
-    let weights = c .before .widened .ensures ∙ each-own _ 16 0 (rw row (length-padded (weightAt (now (a .args .bytes))) 16 (a .args .axles) 0 (omega arith))) ∙ row in
+    let weights = c .before .widened .ensures ∙ each-own _ MOST-AXLES 0 (rw row (length-padded (weightAt (now (a .args .bytes))) MOST-AXLES (a .args .axles) 0 (omega arith))) ∙ row in
     rw (c .before .before .before .word-at .ensures, weights, c .words2 .ensures, a .pre .0)
 
 pub vehicle-of-spec : {M : Type 1} → statement M

@@ -1,21 +1,20 @@
 -- `widened` meets its contract. The invariant: the first i numbers are the row's, and 0 stands after them.
-use Prim.Native.Nat.{ℕ, _+_, _-_, _≤_}
+use Prim.Native.Nat.{_-_, _≤_}
 use mathlib.Core.Path.{_≡_, refl}
 use mathlib.Core.List.{_++_}
 use native.Mathlib.Omega.{arith}
 use lib.ListN.{getD, replicate}
 use Rattle.files.specs.Words.{each}
+use Rattle.files.specs.VehicleFile.{MOST-AXLES}
 use Rattle.files.proofs.Each.{store-each}
 use Rattle.files.proofs.vehicle.widened.Statement.{statement}
 use Rattle.files.proofs.vehicle.widened.Tie as tie
 
--- `widened` meets its contract. The invariant: the first i numbers are the row's, and 0 stands after them.
-
 abbrev Inv-loop : tie.InvT-loop
-Inv-loop row out₀ i₀ out i = (i ≤ 16) × (out ≡ each (λ k. getD row k 0) i ++ replicate (16 - i) 0)
+Inv-loop row out₀ i₀ out i = (i ≤ MOST-AXLES) × (out ≡ each (λ k. getD row k 0) i ++ replicate (MOST-AXLES - i) 0)
 
 abbrev μ-loop : tie.MeasureT-loop
-μ-loop row out₀ i₀ out i = 16 - i
+μ-loop row out₀ i₀ out i = MOST-AXLES - i
 
 loop-holds : tie.Need-loop-holds Inv-loop μ-loop
 loop-holds c = (omega arith, refl)
@@ -44,10 +43,10 @@ loop-less c = omega arith
 loop-again : tie.Need-loop-again Inv-loop μ-loop
 loop-again c =
     let l = c .before .before in
-    (omega arith, rw (l .loop .inv .1, c .wider .ensures) (store-each (λ k. getD (l .before .args .t1) k 0) 16 (l .loop .i) 0 (omega arith)))
+    (omega arith, rw (l .loop .inv .1, c .wider .ensures) (store-each (λ k. getD (l .before .args .t1) k 0) MOST-AXLES (l .loop .i) 0 (omega arith)))
 
 returns : tie.Need-returns Inv-loop μ-loop
-returns c = let e : c .before .loop .i ≡ 16 = omega arith in rw e at (c .before .loop .inv .1)
+returns c = let e : c .before .loop .i ≡ MOST-AXLES = omega arith in rw e at (c .before .loop .inv .1)
 
 pub widened-spec : {M : Type 1} → statement M
 widened-spec =

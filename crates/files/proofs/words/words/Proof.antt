@@ -1,12 +1,12 @@
 -- `words` meets its contract. The invariant: the row holds the first i words, and 0 after them. A store makes it one word more.
 use Prim.Native.Nat.{ℕ, _+_, _*_, _-_, _≤_, _<_}
-use mathlib.Core.Path.{_≡_, refl, ap, _∙_}
-use mathlib.Core.List.{List, _++_}
-use native.Mathlib.Nat.{mul-le-mul-left, le-antisymm}
+use mathlib.Core.Path.{_≡_, refl}
+use mathlib.Core.List.{_++_}
+use native.Mathlib.Nat.{mul-le-mul-left}
 use native.Mathlib.Numerals.{add-one-le}
 use native.Mathlib.Omega.{arith}
-use lib.ListN.{length, set, replicate}
-use Rattle.files.specs.Words.{wordAt, words, each}
+use lib.ListN.{replicate}
+use Rattle.files.specs.Words.{wordAt, words}
 use Rattle.files.proofs.Each.{store-each}
 use Rattle.files.proofs.words.words.Statement.{statement}
 use Rattle.files.proofs.words.words.Tie as tie
@@ -14,8 +14,6 @@ use Rattle.files.proofs.words.words.Tie as tie
 -- a word of the row lies within the bytes
 inside : (at step count size i : ℕ) → i < count → 2 ≤ step → at + step * count ≤ size + (step - 2) → at + step * i + 1 < size
 inside at step count size i h two all = omega (arith, mul-le-mul-left step (add-one-le h))
-
--- `words` meets its contract. The invariant: the row holds the first i words, and 0 after them. A store makes it one word more.
 
 abbrev Inv-loop : tie.InvT-loop
 Inv-loop bytes at step count row₀ i₀ row i = (i ≤ count) × (row ≡ words bytes at step i ++ replicate (16 - i) 0)
