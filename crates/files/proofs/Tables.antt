@@ -30,30 +30,6 @@ suits-code kind code e = go (bending kind) (eqb kind 3) (eqb kind 4) e
     go false false true f = let h : code ≡ 3 = eqb-true code 3 f in omega arith
     go false false false f = let h : code ≡ 4 = eqb-true code 4 f in omega arith
 
-same : (a b : Bool) → Bool·beq a b ≡ true → a ≡ b
-same true true e = refl
-same true false e = sym e
-same false true e = e
-same false false e = refl
-
--- the entries of two tables of used fields, by kind and by code, both from 0
-abbrev pub entries : (byKind byCode : List ℕ) (kind code f : ℕ) → Bool
-entries byKind byCode kind code f = eqb (getD byKind (16 * kind + f) 0) 1 && eqb (getD byCode (16 * code + f) 0) 1
-
--- the tables say of every kind and every code that suits it what `used` says
-abbrev pub usedTest : (byKind byCode : List ℕ) (k c f : ℕ) → Bool
-usedTest byKind byCode k c f = not (suits (suc k) (suc c)) || Bool·beq (entries byKind byCode k c f) (used (suc k) (suc c) f)
-
-pub used-entry : (byKind byCode : List ℕ) → all (λ k. all (λ c. all (usedTest byKind byCode k c) 16) 4) 6 ≡ true → (kind code f : ℕ) → In (1 ‥ 6) kind → suits kind code ≡ true → f < 16 → entries byKind byCode (kind - 1) (code - 1) f ≡ used kind code f
-used-entry byKind byCode agree kind code f hk s hf =
-    let hc : In (1 ‥ 4) code = suits-code kind code s in
-    let ek : suc (kind - 1) ≡ kind = omega arith in
-    let ec : suc (code - 1) ≡ code = omega arith in
-    let by-code = all-at (λ k. all (λ c. all (usedTest byKind byCode k c) 16) 4) 6 agree (kind - 1) (omega arith) in
-    let by-field = all-at (λ c. all (usedTest byKind byCode (kind - 1) c) 16) 4 by-code (code - 1) (omega arith) in
-    let t = all-at (usedTest byKind byCode (kind - 1) (code - 1)) 16 by-field f hf in
-    same _ _ (either _ _ (rw (ek, ec, s) at t) refl)
-
 -- s1 to s6: the table's rows are the codes, from 0; `side` is the low or the high end
 abbrev pub sectionTest : (side : Range → ℕ) (table : List ℕ) (kind l c s : ℕ) → Bool
 sectionTest side table kind l c s = eqb (getD table (6 * c + s) 0) (side (rangeOf kind (suc c) l (8 + s)))
@@ -76,6 +52,12 @@ plainTest side table kind code l f = ruled f || eqb (getD table f 0) (side (rang
 pub plain-entry : (side : Range → ℕ) (table : List ℕ) (kind code l : ℕ) → all (plainTest side table kind code l) 16 ≡ true → (f : ℕ) → f < 16 → ruled f ≡ false → getD table f 0 ≡ side (rangeOf kind code l f)
 plain-entry side table kind code l agree f h other =
     eqb-true _ _ (either (ruled f) _ (all-at (plainTest side table kind code l) 16 agree f h) other)
+
+same : (a b : Bool) → Bool·beq a b ≡ true → a ≡ b
+same true true e = refl
+same true false e = sym e
+same false true e = e
+same false false e = refl
 
 -- no code leaves the species unused; of the kinds only 6 does
 species-by-code : (kind code : ℕ) → holds SPECIES (unusedByCode kind code) ≡ false

@@ -51,7 +51,7 @@ fn species_within(kind: u16, species: u16) -> bool
 
 // The field is 0 where the record does not use it.
 pub fn is_zeroed(m: Member, f: usize) -> bool
-    requires { ⌜ (In (1 ‥ 6) (field m KIND)) × (suits (field m KIND) (field m CODE) ≡ true) × (f < FIELDS) ⌝ }
+    requires { ⌜ f < FIELDS ⌝ }
     ensures { λ r. ⌜ r ≡ zeroed m f ⌝ }
 {
     let kind = m.fields[KIND];

@@ -1,258 +1,97 @@
 // The tables of document 01: which section suits a kind, which fields a record uses, and the ranges of those.
 use rating::record::DISTANCE;
+use rating::record::HEIGHT;
+use rating::record::MU_A;
+use rating::record::MU_B;
 use rating::record::S1;
+use rating::record::S3;
+use rating::record::S4;
+use rating::record::S5;
 use rating::record::S6;
+use rating::record::SPACING;
+use rating::record::SPECIES;
 ghost use mathlib.Core.Path.{_≡_};
 ghost use mathlib.Core.Bool.{true};
 ghost use Prim.Native.Nat.{_<_};
 ghost use Rattle.rating.specs.Fields.{FIELDS};
-ghost use Rattle.rating.specs.Format.{_‥_, In, used, distanceRange, rangeOf, suits};
+ghost use Rattle.rating.specs.Format.{_‥_, In, holds, unusedByKind, unusedByCode, used, distanceRange, rangeOf, suits};
 ghost use Rattle.files.specs.Reading.{isIn};
 
-// The fields that a kind uses, a row for each kind from 1: lost area counts for nothing in bending.
-//    kind, species, l, d, x, h, q, code, s1 to s6, A, B
-const BY_KIND: [u8; 96] = [
-    1,
-    1,
-    1,
-    1,
-    0,
-    0,
-    1,
-    1,
-    1,
-    1,
-    1,
-    1,
-    1,
-    0,
-    0,
-    0, //
-    1,
-    1,
-    1,
-    0,
-    1,
-    0,
-    1,
-    1,
-    1,
-    1,
-    1,
-    1,
-    1,
-    0,
-    0,
-    0, //
-    1,
-    1,
-    1,
-    1,
-    1,
-    1,
-    1,
-    1,
-    1,
-    1,
-    1,
-    1,
-    1,
-    1,
-    0,
-    0, //
-    1,
-    1,
-    1,
-    1,
-    1,
-    1,
-    1,
-    1,
-    1,
-    1,
-    1,
-    1,
-    1,
-    1,
-    1,
-    1, //
-    1,
-    1,
-    1,
-    1,
-    1,
-    1,
-    1,
-    1,
-    1,
-    1,
-    1,
-    1,
-    1,
-    1,
-    1,
-    1, //
-    1,
-    0,
-    1,
-    1,
-    1,
-    1,
-    1,
-    1,
-    1,
-    1,
-    1,
-    1,
-    1,
-    1,
-    1,
-    1, //
-];
-
-// The fields that a section code uses, a row for each code from 1.
-const BY_CODE: [u8; 64] = [
-    1,
-    1,
-    1,
-    1,
-    1,
-    1,
-    1,
-    1,
-    1,
-    1,
-    1,
-    0,
-    0,
-    0,
-    1,
-    1, //
-    1,
-    1,
-    1,
-    1,
-    1,
-    1,
-    1,
-    1,
-    1,
-    1,
-    1,
-    1,
-    1,
-    1,
-    1,
-    1, //
-    1,
-    1,
-    1,
-    1,
-    1,
-    1,
-    1,
-    1,
-    1,
-    1,
-    1,
-    1,
-    1,
-    1,
-    1,
-    1, //
-    1,
-    1,
-    1,
-    1,
-    1,
-    1,
-    1,
-    1,
-    1,
-    1,
-    0,
-    0,
-    0,
-    0,
-    1,
-    1, //
-];
-
-// The ranges of the fields that no code and no kind changes; 0 for the others.
+// The ranges of the fields that no code and no kind changes; 0 for x and for s1 to s6.
 const LOW: [u16; 16] = [1, 1, 100, 10, 0, 10, 0, 1, 0, 0, 0, 0, 0, 0, 1, 1];
 
 const HIGH: [u16; 16] = [
-    6,
-    8,
-    5000,
-    1000,
+    6, // kind
+    8, // species
+    5000, // l
+    1000, // d
     0,
-    500,
-    10000,
-    4,
-    0,
-    0,
+    500, // h
+    10000, // q
+    4, // code
     0,
     0,
     0,
     0,
-    1000,
-    1000,
+    0,
+    0,
+    1000, // A
+    1000, // B
 ];
 
-// The ranges of s1 to s6, a row for each code from 1.
+// The ranges of s1 to s6, six for each code; 0 for what a code lacks.
 const SECTION_LOW: [u16; 24] = [
-    13,
-    0,
-    1,
-    0,
-    0,
-    0, //
-    1,
-    1,
-    0,
-    0,
-    1,
-    0, //
-    1,
-    1,
-    1,
-    1,
-    0,
-    1, //
-    1,
+    13, // log, diameter
+    0, // rot
+    1, // tiers
     0,
     0,
     0,
+    1, // sawn, width
+    1, // height
+    0, // side rot
+    0, // top rot
+    1, // pieces
+    0, // lost area
+    1, // dowels, type
+    1, // diameter
+    1, // middle thickness
+    1, // outer thickness
+    0, // rot
+    1, // cuts
+    1, // area, area
+    0, // lost area
     0,
-    0, //
+    0,
+    0,
+    0,
 ];
 
 const SECTION_HIGH: [u16; 24] = [
-    39,
-    60,
-    3,
-    0,
-    0,
-    0, //
-    60,
-    60,
-    60,
-    60,
-    40,
-    10000, //
-    3,
-    60,
-    60,
-    60,
-    60,
-    200, //
-    10000,
-    10000,
+    39, // log, diameter
+    60, // rot
+    3, // tiers
     0,
     0,
     0,
-    0, //
+    60, // sawn, width
+    60, // height
+    60, // side rot
+    60, // top rot
+    40, // pieces
+    10000, // lost area
+    3, // dowels, type
+    60, // diameter
+    60, // middle thickness
+    60, // outer thickness
+    60, // rot
+    200, // cuts
+    10000, // area, area
+    10000, // lost area
+    0,
+    0,
+    0,
+    0,
 ];
 
 pub struct Limits {
@@ -286,14 +125,51 @@ pub fn suits_kind(kind: u16, code: u16) -> bool
     code == 4
 }
 
+// "kind 1 x, h, A, B; kind 2 d, h, A, B; kind 3 A, B; kind 6 species"
+fn unused_by_kind(kind: u16, field: usize) -> bool
+    ensures { λ r. ⌜ r ≡ holds field (unusedByKind kind) ⌝ }
+{
+    let mu = (field == MU_A) | (field == MU_B);
+    if kind == 1 {
+        return (field == DISTANCE) | (field == HEIGHT) | mu;
+    }
+    if kind == 2 {
+        return (field == SPACING) | (field == HEIGHT) | mu;
+    }
+    if kind == 3 {
+        return mu;
+    }
+    if kind == 6 {
+        return field == SPECIES;
+    }
+    false
+}
+
+// "the section fields that a code lacks", and in bending the lost area of a sawn section.
+fn unused_by_code(kind: u16, code: u16, field: usize) -> bool
+    ensures { λ r. ⌜ r ≡ holds field (unusedByCode kind code) ⌝ }
+{
+    let last = (field == S4) | (field == S5) | (field == S6);
+    if code == 1 {
+        return last;
+    }
+    if code == 2 {
+        if kind <= 2 {
+            return field == S6;
+        }
+        return false;
+    }
+    if code == 4 {
+        return (field == S3) | last;
+    }
+    false
+}
+
 pub fn is_used(kind: u16, code: u16, field: usize) -> bool
-    requires { ⌜ (In (1 ‥ 6) kind) × (suits kind code ≡ true) × (field < FIELDS) ⌝ }
     ensures { λ r. ⌜ r ≡ used kind code field ⌝ }
 {
-    let row = (kind - 1) as usize;
-    let section = (code - 1) as usize;
-    let by_kind = BY_KIND[16 * row + field] == 1;
-    let by_code = BY_CODE[16 * section + field] == 1;
+    let by_kind = !unused_by_kind(kind, field);
+    let by_code = !unused_by_code(kind, code, field);
     by_kind & by_code
 }
 

@@ -1,57 +1,18 @@
--- `is_used` meets its contract: the two tables pass the test that they agree with `used`.
-use native.Mathlib.Omega.{arith}
+-- `is_used` meets its contract: a field is used where neither the kind nor the code leaves it unused.
 use borrow.Author.Needs.{needs}
-use Rattle.rating.specs.Format.{used, unusedByKind, unusedByCode, suits, bending}
-use Rattle.files.proofs.Tables.{suits-code, used-entry}
+use Rattle.rating.specs.Format.{used}
 use Rattle.files.proofs.ranges.is_used.Statement.{statement}
 use Rattle.files.proofs.ranges.is_used.Tie as tie
 
-sub-row : tie.Need-sub-row
-sub-row c = search needs
+unused-by-kind-requires : tie.Need-unused-by-kind-requires
+unused-by-kind-requires c κs = search needs
 
-cast-row : tie.Need-cast-row
-cast-row c = search needs
-
-sub-section : tie.Need-sub-section
-sub-section c = suits-code (c .args .kind) (c .args .code) (c .pre .1) .0
-
-cast-section : tie.Need-cast-section
-cast-section c = search needs
-
-mul-by-kind : tie.Need-mul-by-kind
-mul-by-kind c = search needs
-
-add-by-kind : tie.Need-add-by-kind
-add-by-kind c = search needs
-
-array-read-by-kind : tie.Need-array-read-by-kind
-array-read-by-kind c = search needs
-
-mul-by-code : tie.Need-mul-by-code
-mul-by-code c = search needs
-
-add-by-code : tie.Need-add-by-code
-add-by-code c = search needs
-
-array-read-by-code : tie.Need-array-read-by-code
-array-read-by-code c = omega (arith, suits-code (c .args .kind) (c .args .code) (c .pre .1))
+unused-by-code-requires : tie.Need-unused-by-code-requires
+unused-by-code-requires c κs = search needs
 
 returns : tie.Need-returns
-unfolding used unusedByKind unusedByCode suits bending
-returns c = search used-entry
+unfolding used
+returns c = rw (c .before .unused-by-kind .ensures, c .unused-by-code .ensures)
 
 pub is-used-spec : {M : Type 1} → statement M
-is-used-spec =
-    tie.close
-    (tie.spec
-    sub-row
-    cast-row
-    sub-section
-    cast-section
-    mul-by-kind
-    add-by-kind
-    array-read-by-kind
-    mul-by-code
-    add-by-code
-    array-read-by-code
-    returns)
+is-used-spec = tie.close (tie.spec unused-by-kind-requires unused-by-code-requires returns)

@@ -54,10 +54,7 @@ loop-holds : tie.Need-loop-holds Inv-loop μ-loop Inv-records μ-records
 loop-holds c = (omega arith, c .before .before .before .before .before .before .records .inv .1, refl, sym (and-true _))
 
 is-zeroed-requires : tie.Need-is-zeroed-requires Inv-loop μ-loop Inv-records μ-records
-is-zeroed-requires c κs =
-    let r = c .before .before .before .before in
-    let ok = codes _ (sym (r .before .code-fault .ensures) ∙ r .if1 .left) in
-    (ok .0, ok .2, omega arith)
+is-zeroed-requires c κs = omega arith
 
 is-within-requires : tie.Need-is-within-requires Inv-loop μ-loop Inv-records μ-records
 is-within-requires c κs =

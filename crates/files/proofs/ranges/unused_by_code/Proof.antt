@@ -1,0 +1,30 @@
+-- `unused_by_code` meets its contract: the tests that led to each answer say which of the document's lists it is.
+use mathlib.Core.Bool.{or-assoc, or-false}
+use borrow.Author.Needs.{needs}
+use borrow.Author.Tests.{eq-eqb, ne-eqb, le-leb, lt-leb}
+use Rattle.rating.specs.Format.{unusedByCode, bending}
+use Rattle.files.proofs.ranges.unused_by_code.Statement.{statement}
+use Rattle.files.proofs.ranges.unused_by_code.Tie as tie
+
+returns : tie.Need-returns
+unfolding unusedByCode bending
+returns c = rw (eq-eqb _ _ (c .if1 .taken)) (simp (or-assoc, or-false))
+
+returns-2 : tie.Need-returns-2
+unfolding unusedByCode bending
+returns-2 c = rw (ne-eqb _ _ (c .before .before .if1 .left), eq-eqb _ _ (c .before .if2 .taken), le-leb _ _ (c .if3 .taken)) (simp or-false)
+
+returns-3 : tie.Need-returns-3
+unfolding unusedByCode bending
+returns-3 c = rw (ne-eqb _ _ (c .before .before .if1 .left), eq-eqb _ _ (c .before .if2 .taken), lt-leb _ _ (c .if3 .left))
+
+returns-4 : tie.Need-returns-4
+unfolding unusedByCode bending
+returns-4 c = rw (ne-eqb _ _ (c .before .before .if1 .left), ne-eqb _ _ (c .before .if2 .left), eq-eqb _ _ (c .if4 .taken)) (simp (or-assoc, or-false))
+
+returns-5 : tie.Need-returns-5
+unfolding unusedByCode bending
+returns-5 c = rw (ne-eqb _ _ (c .before .before .if1 .left), ne-eqb _ _ (c .before .if2 .left), ne-eqb _ _ (c .if4 .left))
+
+pub unused-by-code-spec : {M : Type 1} → statement M
+unused-by-code-spec = tie.close (tie.spec returns returns-2 returns-3 returns-4 returns-5)
