@@ -1,8 +1,9 @@
+-- Cited by other crates: `Surveys` and `Vehicles`, with the laws of their parts.
+mod Tests
+mod Tables
+mod Headers
 pub mod Each
-pub mod Tests
-pub mod Tables
 pub mod Faults
-pub mod Headers
 pub mod Members
 pub mod Surveys
 pub mod Vehicles

@@ -1,11 +1,11 @@
 // The survey file and the vehicle file: bytes of any length become a survey or a vehicle, or the first fault with its
 // number and place.
-pub mod header;
-pub mod member;
-pub mod ranges;
+mod header;
+mod member;
+mod ranges;
 pub mod survey;
 pub mod vehicle;
-pub mod words;
+mod words;
 
 use rating::record::Survey;
 use rating::record::Vehicle;

@@ -5,6 +5,9 @@ ghost use mathlib.Core.List.{_++_};
 ghost use lib.ListN.{length, replicate};
 ghost use Rattle.files.specs.Words.{wordAt, words};
 
+// The longest row of words: the fields of a record, the axles of a vehicle.
+const ROW: usize = 16;
+
 pub fn wide(byte: u8) -> u16
     ensures { λ r. ⌜ (r ≡ byte) × (r < 256) ⌝ }
 {
@@ -22,11 +25,11 @@ pub fn word_at(bytes: &[u8], at: usize) -> u16
 }
 
 // The first `count` words of a row that stand `step` bytes apart; the rest are 0.
-pub fn words(bytes: &[u8], at: usize, step: usize, count: usize) -> [u16; 16]
+pub fn words(bytes: &[u8], at: usize, step: usize, count: usize) -> [u16; ROW]
     requires { ⌜ (count ≤ 16) × (step ≤ 4) × (2 ≤ step) × (at + step * count ≤ length (now bytes) + (step - 2)) ⌝ }
     ensures { λ r. ⌜ r ≡ words (now (bytes .entry)) at step count ++ replicate (16 - count) 0 ⌝ }
 {
-    let mut row = [0u16; 16];
+    let mut row = [0u16; ROW];
     let mut i = 0;
     while i < count {
         row[i] = word_at(bytes, at + step * i);

@@ -75,7 +75,7 @@ used kind code f = not (holds f (unusedByKind kind)) && not (holds f (unusedByCo
 abbrev pub distanceRange : (kind l : ℕ) → Range
 distanceRange kind l = choose (eqb kind 2) (10 ‥ 1000) (1 ‥ (l - 1))
 
--- "Ranges: l 100..5000, d 10..1000, x, h 10..500, q 0..10000, A and B 1..1000", with the kinds,
+-- "Ranges: l 100..5000, d 10..1000, x 1..l−1 (kind 2: 10..1000), h 10..500, q 0..10000, A and B 1..1000", with the kinds,
 -- the species and the codes, in the order of the record
 unfoldable pub ranges : (kind code l : ℕ) → List Range
 ranges kind code l =
