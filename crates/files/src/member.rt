@@ -9,44 +9,28 @@ use rating::record::Member;
 use rating::record::SPAN;
 use rating::record::SPECIES;
 ghost use mathlib.Core.Path.{_≡_};
-ghost use mathlib.Core.Bool.{true, _||_};
-ghost use lib.Dec.{eqb};
 ghost use Prim.Native.Nat.{_<_};
-ghost use Rattle.rating.specs.Fields.{KIND, CODE, FIELDS, field};
-ghost use Rattle.rating.specs.Format.{_‥_, In, suits};
-ghost use Rattle.files.specs.Reading.{isIn};
+ghost use Rattle.rating.specs.Fields.{FIELDS};
 ghost use Rattle.files.specs.SurveyFile.{zeroed, within, codeFault};
 
-// The kinds run to 6, which has no species.
 const LAST_KIND: u16 = 6;
-
-const LAST_SPECIES: u16 = 8;
 
 // 4 kind; 5 species, where used; 6 section code does not suit the kind; or 0.
 pub fn code_fault(m: Member) -> u64
     ensures { λ r. ⌜ r ≡ codeFault m ⌝ }
 {
     let kind = m.fields[KIND];
-    let species = m.fields[SPECIES];
     let code = m.fields[CODE];
     if !inside(1, LAST_KIND, kind) {
         return 4;
     }
-    if !species_within(kind, species) {
+    if !is_within(m, SPECIES) {
         return 5;
     }
     if !suits_kind(kind, code) {
         return 6;
     }
     0
-}
-
-fn species_within(kind: u16, species: u16) -> bool
-    ensures { λ r. ⌜ r ≡ (eqb kind 6 || isIn (1 ‥ 8) species) ⌝ }
-{
-    let unused = kind == LAST_KIND;
-    let known = inside(1, LAST_SPECIES, species);
-    unused | known
 }
 
 // The field is 0 where the record does not use it.
@@ -63,7 +47,7 @@ pub fn is_zeroed(m: Member, f: usize) -> bool
 
 // The field is in its range where the record uses it.
 pub fn is_within(m: Member, f: usize) -> bool
-    requires { ⌜ (In (1 ‥ 6) (field m KIND)) × (suits (field m KIND) (field m CODE) ≡ true) × (f < FIELDS) ⌝ }
+    requires { ⌜ f < FIELDS ⌝ }
     ensures { λ r. ⌜ r ≡ within m f ⌝ }
 {
     let kind = m.fields[KIND];

@@ -11,10 +11,9 @@ use rating::record::S6;
 use rating::record::SPACING;
 use rating::record::SPECIES;
 ghost use mathlib.Core.Path.{_≡_};
-ghost use mathlib.Core.Bool.{true};
 ghost use Prim.Native.Nat.{_<_};
 ghost use Rattle.rating.specs.Fields.{FIELDS};
-ghost use Rattle.rating.specs.Format.{_‥_, In, holds, unusedByKind, unusedByCode, used, distanceRange, rangeOf, suits};
+ghost use Rattle.rating.specs.Format.{_‥_, holds, unusedByKind, unusedByCode, used, distanceRange, sectionRange, rangeOf, suits};
 ghost use Rattle.files.specs.Reading.{isIn};
 
 // The ranges of the fields that no code and no kind changes; 0 for x and for s1 to s6.
@@ -93,6 +92,8 @@ const SECTION_HIGH: [u16; 24] = [
     0,
     0,
 ];
+
+const LAST_CODE: u16 = 4;
 
 pub struct Limits {
     pub low: u16,
@@ -174,7 +175,7 @@ pub fn is_used(kind: u16, code: u16, field: usize) -> bool
 }
 
 pub fn limits_of(kind: u16, code: u16, span: u16, field: usize) -> Limits
-    requires { ⌜ (In (1 ‥ 6) kind) × (suits kind code ≡ true) × (field < FIELDS) ⌝ }
+    requires { ⌜ field < FIELDS ⌝ }
     ensures { λ r. ⌜ (r .low ≡ rangeOf kind code span field .low) × (r .high ≡ rangeOf kind code span field .high) ⌝ }
 {
     if field == DISTANCE {
@@ -182,17 +183,31 @@ pub fn limits_of(kind: u16, code: u16, span: u16, field: usize) -> Limits
     }
     if S1 <= field {
         if field <= S6 {
-            let section = (code - 1) as usize;
-            let place = 6 * section + (field - S1);
-            return Limits {
-                low: SECTION_LOW[place],
-                high: SECTION_HIGH[place],
-            };
+            return section_limits(code, field - S1);
         }
     }
     Limits {
         low: LOW[field],
         high: HIGH[field],
+    }
+}
+
+// The ranges of s1 to s6, from 0; nothing but 0 under any other code.
+fn section_limits(code: u16, s: usize) -> Limits
+    requires { ⌜ s < 6 ⌝ }
+    ensures { λ r. ⌜ (r .low ≡ sectionRange code s .low) × (r .high ≡ sectionRange code s .high) ⌝ }
+{
+    if code < 1 {
+        return Limits { low: 0, high: 0 };
+    }
+    if LAST_CODE < code {
+        return Limits { low: 0, high: 0 };
+    }
+    let row = (code - 1) as usize;
+    let place = 6 * row + s;
+    Limits {
+        low: SECTION_LOW[place],
+        high: SECTION_HIGH[place],
     }
 }
 

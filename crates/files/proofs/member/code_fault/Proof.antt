@@ -1,16 +1,12 @@
 -- `code_fault` meets its contract: the tests that led to each answer say which of `codeFault`'s failed first.
 use borrow.Author.Needs.{needs}
 use Rattle.files.specs.SurveyFile.{codeFault}
-use Rattle.files.proofs.Tests.{fails, holds, in-range}
-use Rattle.files.proofs.Tables.{species-test}
+use Rattle.files.proofs.Tests.{fails, holds}
 use Rattle.files.proofs.member.code_fault.Statement.{statement}
 use Rattle.files.proofs.member.code_fault.Tie as tie
 
 element-copy-out-kind : tie.Need-element-copy-out-kind
 element-copy-out-kind c = search needs
-
-element-copy-out-species : tie.Need-element-copy-out-species
-element-copy-out-species c = search needs
 
 element-copy-out-code : tie.Need-element-copy-out-code
 element-copy-out-code c = search needs
@@ -22,40 +18,33 @@ returns : tie.Need-returns
 unfolding codeFault
 returns c = rw (fails (c .before .inside .ensures) (c .if1 .taken))
 
-species-within-requires : tie.Need-species-within-requires
-species-within-requires c κs = search needs
+is-within-requires : tie.Need-is-within-requires
+is-within-requires c κs = search needs
 
 returns-2 : tie.Need-returns-2
 unfolding codeFault
-returns-2 c =
-    let kind = holds (c .before .before .before .inside .ensures) (c .before .before .if1 .left) in
-    rw (kind, species-test _ (in-range _ _ kind), fails (c .before .species-within .ensures) (c .if2 .taken))
+returns-2 c = rw (holds (c .before .before .before .inside .ensures) (c .before .before .if1 .left), fails (c .before .is-within .ensures) (c .if2 .taken))
 
 suits-kind-requires : tie.Need-suits-kind-requires
 suits-kind-requires c κs = search needs
 
 returns-3 : tie.Need-returns-3
 unfolding codeFault
-returns-3 c =
-    let kind = holds (c .before .before .before .before .before .inside .ensures) (c .before .before .before .before .if1 .left) in
-    rw (kind, species-test _ (in-range _ _ kind), holds (c .before .before .before .species-within .ensures) (c .before .before .if2 .left), fails (c .before .suits-kind .ensures) (c .if3 .taken))
+returns-3 c = rw (holds (c .before .before .before .before .before .inside .ensures) (c .before .before .before .before .if1 .left), holds (c .before .before .before .is-within .ensures) (c .before .before .if2 .left), fails (c .before .suits-kind .ensures) (c .if3 .taken))
 
 returns-4 : tie.Need-returns-4
 unfolding codeFault
-returns-4 c =
-    let kind = holds (c .before .before .before .before .before .inside .ensures) (c .before .before .before .before .if1 .left) in
-    rw (kind, species-test _ (in-range _ _ kind), holds (c .before .before .before .species-within .ensures) (c .before .before .if2 .left), holds (c .before .suits-kind .ensures) (c .if3 .left))
+returns-4 c = rw (holds (c .before .before .before .before .before .inside .ensures) (c .before .before .before .before .if1 .left), holds (c .before .before .before .is-within .ensures) (c .before .before .if2 .left), holds (c .before .suits-kind .ensures) (c .if3 .left))
 
 pub code-fault-spec : {M : Type 1} → statement M
 code-fault-spec =
     tie.close
     (tie.spec
     element-copy-out-kind
-    element-copy-out-species
     element-copy-out-code
     inside-requires
     returns
-    species-within-requires
+    is-within-requires
     returns-2
     suits-kind-requires
     returns-3

@@ -13,7 +13,7 @@ use Rattle.files.specs.SurveyFile.{recordAt, memberFault, zeroed}
 use Rattle.files.specs.declared.Reading.the-variants.{Taken}
 use Rattle.files.proofs.Tests.{fails, holds}
 use Rattle.files.proofs.Faults.{clear-more, fault-at}
-use Rattle.files.proofs.Members.{codes, ranged, ranged-more, code-first, unused-next, range-last, no-fault}
+use Rattle.files.proofs.Members.{ranged, ranged-more, code-first, unused-next, range-last, no-fault}
 use Rattle.files.proofs.survey.first_fault.Statement.{statement}
 use Rattle.files.proofs.survey.first_fault.Tie as tie
 
@@ -57,10 +57,7 @@ is-zeroed-requires : tie.Need-is-zeroed-requires Inv-loop μ-loop Inv-records μ
 is-zeroed-requires c κs = omega arith
 
 is-within-requires : tie.Need-is-within-requires Inv-loop μ-loop Inv-records μ-records
-is-within-requires c κs =
-    let r = c .before .before .before .before .before .before in
-    let ok = codes _ (sym (r .before .code-fault .ensures) ∙ r .if1 .left) in
-    (ok .0, ok .2, omega arith)
+is-within-requires c κs = omega arith
 
 add-f : tie.Need-add-f Inv-loop μ-loop Inv-records μ-records
 add-f c = omega arith
