@@ -8,10 +8,10 @@ use native.Mathlib.Omega.{arith}
 use lib.ListN.{length, getD, replicate}
 use Rattle.rating.specs.declared.record.Member.{Member}
 use Rattle.rating.specs.declared.record.Survey.{Survey}
-use Rattle.rating.specs.Fields.{FIELDS, field}
+use Rattle.rating.specs.Fields.{MOST-MEMBERS, FIELDS, field}
 use Rattle.rating.specs.Format.{_‥_, In, AllowedMember}
 use Rattle.files.specs.Words.{wordAt}
-use Rattle.files.specs.SurveyFile.{MOST-MEMBERS, SURVEY-HEADER, RECORD, countOf, recordAt, surveyHeader, memberFault, recordFaults, surveyAnswer, blankMember, blankSurvey, surveyOf, surveyBy, readSurvey}
+use Rattle.files.specs.SurveyFile.{SURVEY-HEADER, RECORD, countOf, recordAt, surveyHeader, memberFault, recordFaults, surveyAnswer, blankMember, blankSurvey, surveyOf, surveyBy, readSurvey}
 use Rattle.files.specs.Allowed.{AllowedSurveyFile, SurveyRefusal}
 use Rattle.files.specs.declared.Refusal.{Refusal}
 use Rattle.files.specs.declared.Reading.{Reading}

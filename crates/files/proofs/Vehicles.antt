@@ -9,11 +9,12 @@ use native.Mathlib.Omega.{arith}
 use lib.ListN.{length, getD, replicate}
 use borrow.Author.Tests.{ne-eqb}
 use Rattle.rating.specs.declared.record.Vehicle.{Vehicle}
-use Rattle.rating.specs.Format.{_‥_, In, AllowedVehicle}
+use Rattle.rating.specs.Format.{In, classRange, trackRange, weightRange, laterRange, AllowedVehicle}
 use Rattle.files.specs.Words.{wordAt}
 use Rattle.files.specs.Reading.{_unless_, isIn}
 use Rattle.files.specs.Header.{headerFault}
-use Rattle.files.specs.VehicleFile.{MOST-AXLES, VEHICLE-HEADER, AXLE, axlesOf, classOf, trackOf, weightAt, distanceAt, axleRange, vehicleHeader, axleWithin, axleFault, axleFaults, vehicleAnswer, blankVehicle, vehicleOf, vehicleBy, readVehicle}
+use Rattle.rating.specs.Fields.{MOST-AXLES}
+use Rattle.files.specs.VehicleFile.{VEHICLE-HEADER, AXLE, axlesOf, classOf, trackOf, weightAt, distanceAt, axleRange, vehicleHeader, axleWithin, axleFault, axleFaults, vehicleAnswer, blankVehicle, vehicleOf, vehicleBy, readVehicle}
 use Rattle.files.specs.Allowed.{AllowedVehicleFile, VehicleRefusal}
 use Rattle.files.specs.declared.Refusal.{Refusal}
 use Rattle.files.specs.declared.Reading.{Reading}
@@ -27,27 +28,27 @@ use Rattle.files.proofs.Headers.{Headed, headed, header-clear, header-n
 -- what a header without a fault says, class and track among it
 pub record Fronted (bytes : List ℕ) : Type 0 where
   pub head : Headed 86 VEHICLE-HEADER MOST-AXLES AXLE bytes
-  pub class : In (0 ‥ 1) (classOf bytes)
-  pub track : In (100 ‥ 300) (trackOf bytes)
+  pub class : In classRange (classOf bytes)
+  pub track : In trackRange (trackOf bytes)
 
 pub fronted : (bytes : List ℕ) → vehicleHeader bytes ≡ 0 → Fronted bytes
 unfolding vehicleHeader
 fronted bytes e =
-    let class = isIn (0 ‥ 1) (classOf bytes) in
-    let track = isIn (100 ‥ 300) (trackOf bytes) in
+    let class = isIn classRange (classOf bytes) in
+    let track = isIn trackRange (trackOf bytes) in
     let first = none (headerFault 86 VEHICLE-HEADER MOST-AXLES AXLE bytes) (7 unless (class && track) ∷ []) e in
     let second = none (7 unless (class && track)) [] (first .1) in
     let good = both class track (passed 7 (class && track) (omega arith) (second .0)) in
     record {
       head = headed 86 VEHICLE-HEADER MOST-AXLES AXLE bytes (first .0);
-      class = in-range (0 ‥ 1) (classOf bytes) (good .0);
-      track = in-range (100 ‥ 300) (trackOf bytes) (good .1);
+      class = in-range classRange (classOf bytes) (good .0);
+      track = in-range trackRange (trackOf bytes) (good .1);
     }
 
 pub front-clear : (bytes : List ℕ) → Fronted bytes → vehicleHeader bytes ≡ 0
 unfolding vehicleHeader
 front-clear bytes h =
-    rw (header-clear 86 VEHICLE-HEADER MOST-AXLES AXLE bytes (h .head), range-in (0 ‥ 1) (classOf bytes) (h .class), range-in (100 ‥ 300) (trackOf bytes) (h .track))
+    rw (header-clear 86 VEHICLE-HEADER MOST-AXLES AXLE bytes (h .head), range-in classRange (classOf bytes) (h .class), range-in trackRange (trackOf bytes) (h .track))
 
 -- the reading is its answer with the vehicle that belongs to it
 pub read-as : (bytes : List ℕ) (answer : Reading) (vehicle : Vehicle) → answer ≡ vehicleAnswer bytes → vehicle ≡ vehicleBy answer bytes → _≡_ {A = VehicleRead} (record { answer = answer; vehicle = vehicle }) (readVehicle bytes)
@@ -55,17 +56,17 @@ unfolding readVehicle
 read-as bytes answer vehicle a v = rw (v, a)
 
 -- an axle without a fault
-pub axle-ranges : (bytes : List ℕ) (i : ℕ) → axleFault bytes i ≡ 0 → (In (1 ‥ 60000) (weightAt bytes i)) × (In (axleRange i) (distanceAt bytes i))
+pub axle-ranges : (bytes : List ℕ) (i : ℕ) → axleFault bytes i ≡ 0 → (In weightRange (weightAt bytes i)) × (In (axleRange i) (distanceAt bytes i))
 unfolding axleWithin
 axle-ranges bytes i e =
-    let weight = isIn (1 ‥ 60000) (weightAt bytes i) in
+    let weight = isIn weightRange (weightAt bytes i) in
     let distance = isIn (axleRange i) (distanceAt bytes i) in
     let good = both weight distance (passed 7 (weight && distance) (omega arith) e) in
-    (in-range (1 ‥ 60000) (weightAt bytes i) (good .0), in-range (axleRange i) (distanceAt bytes i) (good .1))
+    (in-range weightRange (weightAt bytes i) (good .0), in-range (axleRange i) (distanceAt bytes i) (good .1))
 
-pub axle-clear : (bytes : List ℕ) (i : ℕ) → In (1 ‥ 60000) (weightAt bytes i) → In (axleRange i) (distanceAt bytes i) → axleFault bytes i ≡ 0
+pub axle-clear : (bytes : List ℕ) (i : ℕ) → In weightRange (weightAt bytes i) → In (axleRange i) (distanceAt bytes i) → axleFault bytes i ≡ 0
 unfolding axleWithin
-axle-clear bytes i w d = rw (range-in (1 ‥ 60000) (weightAt bytes i) w, range-in (axleRange i) (distanceAt bytes i) d)
+axle-clear bytes i w d = rw (range-in weightRange (weightAt bytes i) w, range-in (axleRange i) (distanceAt bytes i) d)
 
 module _ (bytes : List ℕ) where
   -- the vehicle's axles are the file's
@@ -75,7 +76,7 @@ module _ (bytes : List ℕ) where
   distance-is : (i : ℕ) → i < axlesOf bytes → getD (vehicleOf bytes .distances) i 0 ≡ distanceAt bytes i
   distance-is i l = getD-padded (distanceAt bytes) (axlesOf bytes) i (replicate (MOST-AXLES - axlesOf bytes) 0) 0 l
 
-  later-range : (i : ℕ) → 0 < i → axleRange i ≡ 1 ‥ 2000
+  later-range : (i : ℕ) → 0 < i → axleRange i ≡ laterRange
   later-range i h = rw (ne-eqb i 0 (omega arith))
 
   -- a vehicle is allowed exactly when header and axles have no fault
@@ -148,7 +149,7 @@ module _ (bytes : List ℕ) where
   front-number : (vehicleHeader bytes ≤ 3) ⊎ (vehicleHeader bytes ≡ 7)
   unfolding vehicleHeader
   front-number =
-      let good = isIn (0 ‥ 1) (classOf bytes) && isIn (100 ‥ 300) (trackOf bytes) in
+      let good = isIn classRange (classOf bytes) && isIn trackRange (trackOf bytes) in
       rows-is (λ n. (n ≤ 3) ⊎ (n ≡ 7)) (headerFault 86 VEHICLE-HEADER MOST-AXLES AXLE bytes) (7 unless good) (inl (header-number 86 VEHICLE-HEADER MOST-AXLES AXLE bytes))
       (⊎-elim (λ z. inl (omega arith)) (λ s. inr s) (none-or 7 good))
 

@@ -7,7 +7,8 @@ use lib.ListN.{length, take}
 use Rattle.rating.specs.Format.{_‥_, In, AllowedMember, AllowedVehicle}
 use Rattle.files.specs.declared.Refusal.{Refusal}
 use Rattle.files.specs.Words.{wordAt}
-use Rattle.files.specs.SurveyFile.{MOST-MEMBERS, SURVEY-HEADER, RECORD, countOf, recordAt}
+use Rattle.rating.specs.Fields.{MOST-MEMBERS}
+use Rattle.files.specs.SurveyFile.{SURVEY-HEADER, RECORD, countOf, recordAt}
 use Rattle.files.specs.VehicleFile.{VEHICLE-HEADER, AXLE, axlesOf, vehicleOf}
 
 -- "Survey: the letters TBR, u16 version 1, u8 count 1..64, then per member 16 u16"

@@ -7,7 +7,7 @@ use lib.ListN.{replicate}
 use lib.Dec.{eqb, leb}
 use Rattle.rating.specs.declared.record.Member.{Member}
 use Rattle.rating.specs.declared.record.Survey.{Survey}
-use Rattle.rating.specs.Fields.{KIND, SPECIES, SPAN, CODE, MU-A, MU-B, FIELDS, field}
+use Rattle.rating.specs.Fields.{KIND, SPECIES, SPAN, CODE, MU-A, MU-B, FIELDS, MOST-MEMBERS, field}
 use Rattle.rating.specs.Format.{_‥_, used, rangeOf, suits}
 use Rattle.files.specs.Words.{byteAt, words, each}
 use Rattle.files.specs.Reading.{_unless_, firstOf, firstFault, isIn, all}
@@ -15,10 +15,6 @@ use Rattle.files.specs.Header.{headerFault}
 use Rattle.files.specs.declared.Reading.{Reading}
 use Rattle.files.specs.declared.Reading.the-variants.{Taken, Refused}
 use Rattle.files.specs.declared.SurveyRead.{SurveyRead}
-
--- the most members of a survey
-abbrev pub MOST-MEMBERS : ℕ
-MOST-MEMBERS = 64
 
 -- TBR, version and count
 abbrev pub SURVEY-HEADER : ℕ

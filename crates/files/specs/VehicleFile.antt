@@ -7,17 +7,14 @@ use mathlib.Core.Bool.{Bool, _&&_}
 use lib.ListN.{replicate}
 use lib.Dec.{eqb}
 use Rattle.rating.specs.declared.record.Vehicle.{Vehicle}
-use Rattle.rating.specs.Format.{Range, _‥_, choose}
+use Rattle.rating.specs.Fields.{MOST-AXLES}
+use Rattle.rating.specs.Format.{Range, _‥_, choose, classRange, trackRange, weightRange, laterRange}
 use Rattle.files.specs.Words.{byteAt, wordAt, each}
 use Rattle.files.specs.Reading.{_unless_, firstOf, firstFault, isIn}
 use Rattle.files.specs.Header.{headerFault}
 use Rattle.files.specs.declared.Reading.{Reading}
 use Rattle.files.specs.declared.Reading.the-variants.{Taken, Refused}
 use Rattle.files.specs.declared.VehicleRead.{VehicleRead}
-
--- the most axles of a vehicle
-abbrev pub MOST-AXLES : ℕ
-MOST-AXLES = 16
 
 -- TBV, version, class, track and axles
 abbrev pub VEHICLE-HEADER : ℕ
@@ -48,15 +45,15 @@ unfoldable pub vehicleHeader : List ℕ → ℕ
 vehicleHeader bytes =
     firstOf
     (headerFault 86 VEHICLE-HEADER MOST-AXLES AXLE bytes ∷
-    7 unless (isIn (0 ‥ 1) (classOf bytes) && isIn (100 ‥ 300) (trackOf bytes)) ∷
+    7 unless (isIn classRange (classOf bytes) && isIn trackRange (trackOf bytes)) ∷
     [])
 
 -- "distance from the axle in front, 0 for the first, 1..2000 after"
 abbrev pub axleRange : ℕ → Range
-axleRange i = choose (eqb i 0) (0 ‥ 0) (1 ‥ 2000)
+axleRange i = choose (eqb i 0) (0 ‥ 0) laterRange
 
 unfoldable pub axleWithin : List ℕ → ℕ → Bool
-axleWithin bytes i = isIn (1 ‥ 60000) (weightAt bytes i) && isIn (axleRange i) (distanceAt bytes i)
+axleWithin bytes i = isIn weightRange (weightAt bytes i) && isIn (axleRange i) (distanceAt bytes i)
 
 -- "7 a used number .. outside its range, .. or a first axle's distance other than 0"
 abbrev pub axleFault : List ℕ → ℕ → ℕ

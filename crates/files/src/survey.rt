@@ -20,7 +20,8 @@ ghost use Prim.Native.Nat.{_+_, _-_, _*_, _≤_, _<_};
 ghost use lib.ListN.{length, replicate};
 ghost use Rattle.files.specs.Words.{each};
 ghost use Rattle.files.specs.Reading.{firstFault};
-ghost use Rattle.files.specs.SurveyFile.{MOST-MEMBERS, SURVEY-HEADER, RECORD, recordAt, recordFaults, blankMember, blankSurvey, readSurvey};
+ghost use Rattle.rating.specs.Fields.{MOST-MEMBERS};
+ghost use Rattle.files.specs.SurveyFile.{SURVEY-HEADER, RECORD, recordAt, recordFaults, blankMember, blankSurvey, readSurvey};
 
 // The letters, the version and the count.
 const HEADER: usize = 6;

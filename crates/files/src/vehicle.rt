@@ -14,7 +14,8 @@ ghost use Prim.Native.Nat.{_+_, _*_, _≤_};
 ghost use lib.ListN.{length, getD};
 ghost use Rattle.files.specs.Words.{each};
 ghost use Rattle.files.specs.Reading.{firstFault};
-ghost use Rattle.files.specs.VehicleFile.{MOST-AXLES, VEHICLE-HEADER, AXLE, axlesOf, axleWithin, axleFaults, vehicleHeader, vehicleOf, blankVehicle, readVehicle};
+ghost use Rattle.rating.specs.Fields.{MOST-AXLES};
+ghost use Rattle.files.specs.VehicleFile.{VEHICLE-HEADER, AXLE, axlesOf, axleWithin, axleFaults, vehicleHeader, vehicleOf, blankVehicle, readVehicle};
 
 // The letters, the version, class, track and count.
 const HEADER: usize = 9;

@@ -62,5 +62,12 @@ MU-B = 15
 abbrev pub FIELDS : ℕ
 FIELDS = 16
 
+-- the most members of a survey, and the most axles of a vehicle
+abbrev pub MOST-MEMBERS : ℕ
+MOST-MEMBERS = 64
+
+abbrev pub MOST-AXLES : ℕ
+MOST-AXLES = 16
+
 abbrev pub field : Member → ℕ → ℕ
 field m f = getD (m .fields) f 0

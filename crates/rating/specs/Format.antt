@@ -6,7 +6,7 @@ use mathlib.Core.Bool.{Bool, true, false, not, _&&_, _||_}
 use mathlib.Core.List.{List, [], _∷_, _++_}
 use lib.ListN.{getD}
 use lib.Dec.{eqb, leb}
-use Rattle.rating.specs.Fields.{KIND, SPECIES, SPAN, SPACING, DISTANCE, HEIGHT, CODE, S3, S4, S5, S6, MU-A, MU-B, FIELDS, field}
+use Rattle.rating.specs.Fields.{KIND, SPECIES, SPAN, SPACING, DISTANCE, HEIGHT, CODE, S3, S4, S5, S6, MU-A, MU-B, FIELDS, MOST-AXLES, field}
 use Rattle.rating.specs.declared.record.Member.{Member}
 use Rattle.rating.specs.declared.record.Vehicle.{Vehicle}
 
@@ -96,12 +96,27 @@ pub record AllowedMember (m : Member) : Type 0 where
   -- "A at most B"
   pub ordered : field m MU-A ≤ field m MU-B
 
--- "u8 class, u16 track 100..300, u8 axles 1..16, then per axle u16 weight 1..60000 and u16 distance from the axle in front,
--- 0 for the first, 1..2000 after"
+-- "class 0 (lorries), .. class 1 (wheeled tractors, heavy trailers)"
+abbrev pub classRange : Range
+classRange = 0 ‥ 1
+
+-- "u16 track 100..300"
+abbrev pub trackRange : Range
+trackRange = 100 ‥ 300
+
+-- "u16 weight 1..60000"
+abbrev pub weightRange : Range
+weightRange = 1 ‥ 60000
+
+-- "u16 distance from the axle in front, 0 for the first, 1..2000 after"
+abbrev pub laterRange : Range
+laterRange = 1 ‥ 2000
+
+-- What a vehicle may be: "u8 class, u16 track, u8 axles 1..16, then per axle" weight and distance.
 pub record AllowedVehicle (v : Vehicle) : Type 0 where
-  pub class : In (0 ‥ 1) (v .class)
-  pub track : In (100 ‥ 300) (v .track)
-  pub axles : In (1 ‥ 16) (v .axles)
-  pub weight : (i : ℕ) → i < v .axles → In (1 ‥ 60000) (getD (v .weights) i 0)
+  pub class : In classRange (v .class)
+  pub track : In trackRange (v .track)
+  pub axles : In (1 ‥ MOST-AXLES) (v .axles)
+  pub weight : (i : ℕ) → i < v .axles → In weightRange (getD (v .weights) i 0)
   pub first : getD (v .distances) 0 0 ≡ 0
-  pub distance : (i : ℕ) → 0 < i → i < v .axles → In (1 ‥ 2000) (getD (v .distances) i 0)
+  pub distance : (i : ℕ) → 0 < i → i < v .axles → In laterRange (getD (v .distances) i 0)
