@@ -53,10 +53,10 @@ convex-height U P s off = go (decLe (suc s) P)
         (line (U - suc s) (U - s) (U - suc (suc s)) P (omega arith))
 
 -- nothing at the end at which the vehicle comes on, nothing past the other
-height-start : (U P : ℕ) → scaledHeight U P 0 ≡ 0
+pub height-start : (U P : ℕ) → scaledHeight U P 0 ≡ 0
 height-start U P = rw (rising-side U P 0 (omega arith)) (omega arith)
 
-height-past : (U P s : ℕ) → P ≤ U → U ≤ s → scaledHeight U P s ≡ 0
+pub height-past : (U P s : ℕ) → P ≤ U → U ≤ s → scaledHeight U P s ≡ 0
 height-past U P s p h = rw (falling-side U P s (omega arith), sub-eq-zero-of-le h) (zero-mul P)
 
 -- the same of an axle that stands c behind the front axle
@@ -81,6 +81,12 @@ module _ (U P : ℕ) (w b : ℕ → ℕ) (n : ℕ) where
   empty u h =
       omega (arith, total-le (λ i. w i * scaledHeight U P (u - b i)) (λ i. 0 * w i) n (λ i l. rw (h i l) (omega arith)), total-times 0 w n)
 
+  pub sum-start : scaledSum U P w b n 0 ≤ 0
+  sum-start = empty 0 (λ i l. rw (zero-sub (b i)) (height-start U P))
+
+  pub sum-past : P ≤ U → (u : ℕ) → ((i : ℕ) → i < n → U + b i ≤ u) → scaledSum U P w b n u ≤ 0
+  sum-past p u off = empty u (λ i l. height-past U P (u - b i) p (omega (arith, off i l)))
+
   -- a sum with no axle over the apex is convex there
   convex-sum :
       (v : ℕ) → ((i : ℕ) → i < n → suc v ≡ P + b i → ⊥) →
@@ -102,8 +108,8 @@ module _ (U P : ℕ) (w b : ℕ → ℕ) (n : ℕ) where
       stays-below (scaledSum U P w b n) m
       (λ v above. convex-sum v (λ i l q. omega (arith, high i l, ap (scaledSum U P w b n) q)))
       (U + top b n)
-      (omega (arith, empty 0 (λ i l. rw (zero-sub (b i)) (height-start U P))))
-      (λ v h. omega (arith, empty v (λ i l. height-past U P (v - b i) p (omega (arith, top-at b n i l)))))
+      (omega (arith, sum-start))
+      (λ v h. omega (arith, sum-past p v (λ i l. omega (arith, top-at b n i l))))
 
   pub apex-top : P ≤ U → (u : ℕ) → scaledSum U P w b n u ≤ apexTop U P w b n
   unfolding apexTop

@@ -1,9 +1,9 @@
 -- Sums, tops and greatests over an index: each law goes by the clauses of its fold, one axle or position after the other.
 -- Assumes nothing.
 use Prim.Native.Nat.{ℕ, zero, suc, _+_, _*_, _≤_, _<_, max}
-use mathlib.Core.Path.{_≡_, refl, ap}
+use mathlib.Core.Path.{_≡_, refl, ap, sym}
 use mathlib.Core.Logic.{_⊎_, ⊎-elim}
-use native.Mathlib.Nat.{add-zero, add-suc, le-dest, le-of-suc-le-suc, not-suc-le-zero, eq-or-lt-of-le, le-refl, le-trans, le-max-left, le-max-right, max-eq-left, max-eq-right, le-of-lt, lt-of-not-le}
+use native.Mathlib.Nat.{add-zero, add-suc, le-dest, le-of-suc-le-suc, not-suc-le-zero, eq-or-lt-of-le, le-refl, le-of-eq, le-trans, le-antisymm, le-max-left, le-max-right, max-eq-left, max-eq-right, le-of-lt, lt-of-not-le}
 use native.Mathlib.Decide.{decLe}
 use native.Mathlib.Omega.{arith}
 use Rattle.section.specs.Fraction.{Fraction, Sound, over, whole, _⊕_, _⊑_, _≐_}
@@ -26,9 +26,8 @@ total-cap f k zero h = omega arith
 total-cap f k (suc n) h = omega (arith, total-cap f k n (λ i l. h i (omega arith)), h n (omega arith))
 
 pub total-same : (f g : ℕ → ℕ) (n : ℕ) → ((i : ℕ) → i < n → f i ≡ g i) → total f n ≡ total g n
-unfolding total
-total-same f g zero h = refl
-total-same f g (suc n) h = omega (arith, total-same f g n (λ i l. h i (omega arith)), h n (omega arith))
+total-same f g n h =
+    le-antisymm (total-le f g n (λ i l. le-of-eq (h i l))) (total-le g f n (λ i l. le-of-eq (sym (h i l))))
 
 pub total-plus : (f g : ℕ → ℕ) (n : ℕ) → total (λ i. f i + g i) n ≡ total f n + total g n
 unfolding total

@@ -5,7 +5,7 @@
 use Prim.Native.Nat.{ℕ, _+_, _-_, _*_, _≤_, _<_}
 use mathlib.Core.Path.{_≡_, refl}
 use mathlib.Core.Logic.{_⊎_, inl, inr}
-use native.Mathlib.Nat.{le-trans, le-max-left, le-max-right, le-antisymm, mul-comm}
+use native.Mathlib.Nat.{le-trans, le-max-left, le-max-right, le-antisymm}
 use mathlib.Core.List.{List}
 use lib.ListN.{getD}
 use native.Mathlib.Omega.{arith}
@@ -14,8 +14,8 @@ use Rattle.section.proofs.Order.{⊑-trans, ≐-⊑, ≐-⊒, of-greater, great
 use Rattle.influence.specs.Influence.{Triangle, perMetre, gives, greatestOneWay, greatest, behind}
 use Rattle.influence.specs.Scaled.{scaledSum, apexTop, scaledGreatest}
 use Rattle.influence.proofs.Folds.{total-more, of-max, of-top, of-greatest, greatest-at}
-use Rattle.influence.proofs.Apex.{apex-top}
-use Rattle.influence.proofs.Scaled.{mirrored, over-sound, over-mono, axleSum-over, perMetre-mono, perMetre-sound, gives-sound, divisor-above-0}
+use Rattle.influence.proofs.Apex.{sum-start, sum-past, apex-top}
+use Rattle.influence.proofs.Scaled.{mirrored, same-divisor, over-sound, over-mono, axleSum-over, perMetre-mono, perMetre-sound, gives-sound, divisor-above-0}
 
 -- no axle stands further behind than the last
 abbrev pub LastBehind : (ℕ → ℕ) → ℕ → Type 0
@@ -66,11 +66,18 @@ module _ {U P : ℕ} (w b : ℕ → ℕ) (n : ℕ) (t : Triangle U P) where
         ⊑-trans (gives-sound w b n (P + b j) t) (gives-at-least (P + b j))
         (greatest-at _ (λ u. gives-sound w b n u t) _ (P + b j) (omega (arith, last j l)))
 
--- both directions have the same divisor
-pub same-divisor : {U P : ℕ} → Triangle U P → P * (U - P) ≡ (U - P) * (U - (U - P))
-same-divisor {U} {P} t =
-    let back : U - (U - P) ≡ P = omega arith in
-    rw back (mul-comm P (U - P))
+-- "an axle off the base counts 0": nothing with the front axle at the end, nothing once every axle is past the other
+module _ {U P : ℕ} (w b : ℕ → ℕ) (n : ℕ) (t : Triangle U P) where
+  gives-nothing : (u : ℕ) → scaledSum U P w b n u ≤ 0 → gives U P w b n u ⊑ whole 0
+  gives-nothing u h =
+      ⊑-trans (perMetre-sound (omega arith) (over-sound 0 _ (divisor-above-0 t))) (gives-at-most w b n t _ refl u h)
+      (nothing-at-most U _ _)
+
+  pub gives-at-start : gives U P w b n 0 ⊑ whole 0
+  gives-at-start = gives-nothing 0 (sum-start U P w b n)
+
+  pub gives-past-end : (u : ℕ) → ((i : ℕ) → i < n → U + b i ≤ u) → gives U P w b n u ⊑ whole 0
+  gives-past-end u off = gives-nothing u (sum-past U P w b n (omega arith) u off)
 
 module _ {U P : ℕ} (w b : ℕ → ℕ) (n : ℕ) (t : Triangle U P) (last : LastBehind b n) where
   greatest-at-least : perMetre U (over (scaledGreatest U P w b n) (P * (U - P))) ⊑ greatest U P w b n

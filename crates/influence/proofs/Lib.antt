@@ -1,6 +1,7 @@
 pub mod Folds
 pub mod Apex
 pub mod Scaled
+pub mod Triangle
 pub mod Greatest
 pub mod Steps
 pub mod Load

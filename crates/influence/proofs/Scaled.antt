@@ -2,9 +2,9 @@
 -- axle.
 -- Assumes nothing.
 use Prim.Native.Nat.{ℕ, _-_, _*_, _≤_, _<_}
-use mathlib.Core.Path.{ap}
+use mathlib.Core.Path.{_≡_, ap}
 use mathlib.Core.Bool.{Bool, true, false}
-use native.Mathlib.Nat.{mul-pos, mul-le-mul-right}
+use native.Mathlib.Nat.{mul-comm, mul-pos, mul-le-mul-right}
 use native.Mathlib.Omega.{arith}
 use lib.Dec.{leb}
 use Rattle.section.specs.Fraction.{Fraction, Sound, over, whole, _·_, _⊑_, _≐_, pickFraction}
@@ -19,6 +19,12 @@ mirrored t = omega arith
 
 pub divisor-above-0 : {U P : ℕ} → Triangle U P → 0 < P * (U - P)
 divisor-above-0 t = mul-pos (t .after-start) (omega arith)
+
+-- both directions have the same divisor
+pub same-divisor : {U P : ℕ} → Triangle U P → P * (U - P) ≡ (U - P) * (U - (U - P))
+same-divisor {U} {P} t =
+    let back : U - (U - P) ≡ P = omega arith in
+    rw back (mul-comm P (U - P))
 
 pub over-sound : (x D : ℕ) → 0 < D → Sound (over x D)
 unfolding over
