@@ -15,9 +15,9 @@ use section::fraction;
 // A length along the base, in half centimetres.
 pub struct HalfCm(pub u64);
 
-// Two half centimetres to the centimetre.
-fn half_cm(d: Cm) -> HalfCm
-    requires { ⌜ d .0 ≤ 2000 ⌝ }
+// Two half centimetres to the centimetre; a span is at most 5000 cm.
+pub fn half_cm(d: Cm) -> HalfCm
+    requires { ⌜ d .0 ≤ 5000 ⌝ }
     ensures { λ r. ⌜ r .0 ≡ 2 * d .0 ⌝ }
 {
     HalfCm(2 * d.0)
