@@ -13,8 +13,8 @@ use Rattle.influence.proofs.apex_top.Tie as tie
 
 abbrev Inv-loop : tie.InvT-loop
 Inv-loop base apex axles weights distances top₀ front₀ j₀ top front j =
-    (j ≤ axles) ×
     (top .0 ≡ topOf (base .0) (apex .0) (weight weights) (behind distances) axles j) ×
+    (j ≤ axles) ×
     (front .0 ≡ apex .0 + passed distances j)
 
 abbrev μ-loop : tie.MeasureT-loop
@@ -22,7 +22,7 @@ abbrev μ-loop : tie.MeasureT-loop
 
 loop-holds : tie.Need-loop-holds Inv-loop μ-loop
 unfolding top total
-loop-holds c = (omega arith, refl, omega arith)
+loop-holds c = (refl, omega arith, omega arith)
 
 distance-of-requires : tie.Need-distance-of-requires Inv-loop μ-loop
 distance-of-requires c κs = (omega arith, c .before .before .pre .distance (c .before .loop .j) (omega arith))
@@ -51,10 +51,10 @@ loop-again : tie.Need-loop-again Inv-loop μ-loop
 loop-again c =
     let at = c .before .before .before .before .before .before in
     let args = at .before .args in (
-      omega arith,
       top-next _ _ (weight (args .weights .now)) (behind (args .distances .now)) _ (at .loop .j)
-          (c .heavier .ensures) (at .loop .inv .1) (c .before .sum-at .ensures)
+          (c .heavier .ensures) (at .loop .inv .0) (c .before .sum-at .ensures)
           (omega (arith, behind-passed (args .distances .now) (at .loop .j))),
+      omega arith,
       omega (arith, passed-next (args .distances .now) (at .loop .j)),
     )
 
@@ -62,7 +62,7 @@ returns : tie.Need-returns Inv-loop μ-loop
 unfolding apexTop
 returns c =
     let ended : c .before .loop .j ≡ c .before .before .args .axles = omega arith in
-    rw ended at (c .before .loop .inv .1)
+    rw ended at (c .before .loop .inv .0)
 
 pub apex-top-spec : {M : Type 1} → statement M
 apex-top-spec =
