@@ -1,0 +1,75 @@
+-- The answers' numbers: document 01's number and values for every case of each answer.
+use Prim.Native.Nat.{ℕ}
+use mathlib.Core.List.{List, [], _∷_}
+use Rattle.files.specs.declared.Reading.{Reading}
+use Rattle.files.specs.declared.Reading.the-variants.{Taken, Refused}
+use Rattle.files.specs.declared.Refusal.{Refusal}
+use Rattle.rating.specs.declared.judging.Judgement.{Judgement}
+use Rattle.rating.specs.declared.judging.Rating.{Rating}
+use Rattle.rating.specs.declared.judging.Verdict.{Verdict}
+use Rattle.rating.specs.declared.judging.Verdict.the-variants.{Pass, Refuse}
+use Rattle.session.specs.declared.AfterJudge.{AfterJudge}
+use Rattle.session.specs.declared.AfterLoad.{AfterLoad}
+use Rattle.session.specs.declared.AfterRate.{AfterRate}
+use Rattle.session.specs.declared.Judged.{Judged}
+use Rattle.session.specs.declared.Judged.the-variants.{Figures}
+use Rattle.session.specs.declared.Judged.the-variants.{Refused as NotJudged}
+use Rattle.session.specs.declared.Rated.{Rated}
+use Rattle.session.specs.declared.Rated.the-variants.{Loads}
+use Rattle.session.specs.declared.Rated.the-variants.{Refused as NotRated}
+use Rattle.session.specs.declared.Session.{Session}
+
+-- A number of the list of refusals with its place, or 0 and the values of a call that succeeds. "A refusal carries its number and
+-- place, nothing else."
+pub record Answer : Type 0 where
+  pub number : ℕ
+  pub place : ℕ
+  pub values : List ℕ
+
+abbrev pub succeeded : List ℕ → Answer
+succeeded values = record { number = 0; place = 0; values = values }
+
+abbrev pub refusedAt : (number place : ℕ) → Answer
+refusedAt number place = record { number = number; place = place; values = [] }
+
+abbrev pub refusedBy : Refusal → Answer
+refusedBy r = refusedAt (r .number) (r .place)
+
+-- pass is 1, refuse is 0
+abbrev pub verdictNumber : Verdict → ℕ
+verdictNumber Pass = 1
+verdictNumber Refuse = 0
+
+-- "Rate gives the member's two loads and pass or refuse."
+abbrev pub ratingValues : Rating → List ℕ
+ratingValues r = r .permitted .0 ∷ r .load .0 ∷ verdictNumber (r .verdict) ∷ []
+
+-- "Judge gives figure, governing place and verdict"
+abbrev pub judgementValues : Judgement → List ℕ
+judgementValues j = j .figure .0 ∷ j .governing ∷ verdictNumber (j .verdict) ∷ []
+
+abbrev pub loadAnswer : Reading → Answer
+loadAnswer Taken = succeeded []
+loadAnswer (Refused r) = refusedBy r
+
+abbrev pub rateAnswer : Rated → Answer
+rateAnswer (Loads r) = succeeded (ratingValues r)
+rateAnswer (NotRated r) = refusedBy r
+
+abbrev pub judgeAnswer : Judged → Answer
+judgeAnswer (Figures j) = succeeded (judgementValues j)
+judgeAnswer (NotJudged r) = refusedBy r
+
+-- what a call leaves and answers
+pub record Outcome : Type 0 where
+  pub session : Session
+  pub answer : Answer
+
+abbrev pub loaded : AfterLoad → Outcome
+loaded r = record { session = r .session; answer = loadAnswer (r .answer) }
+
+abbrev pub rated : AfterRate → Outcome
+rated r = record { session = r .session; answer = rateAnswer (r .answer) }
+
+abbrev pub judged : AfterJudge → Outcome
+judged r = record { session = r .session; answer = judgeAnswer (r .answer) }
