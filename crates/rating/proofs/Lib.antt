@@ -6,3 +6,6 @@ pub mod Falling
 pub mod Products
 pub mod Quantities
 pub mod Whole
+pub mod Lines
+pub mod Places
+pub mod Turns

@@ -5,3 +5,7 @@ pub mod Formula
 pub mod PermittedLoad
 pub mod Sizes
 pub mod Cases
+pub mod Surveyed
+pub mod VehicleLoad
+pub mod Judgement
+pub mod Turn

@@ -1,0 +1,114 @@
+-- One more member: what a turn of the loop in `judge` does to the judgement and to the list is what the definitions give of the
+-- members so far and that one.
+-- Assumes nothing.
+use Prim.Native.Nat.{ℕ, suc, _+_, _*_, _≤_, _<_, min}
+use mathlib.Core.Path.{_≡_, refl, _∙_}
+use mathlib.Core.Bool.{Bool, true, false, _&&_, and-true, and-assoc}
+use mathlib.Core.List.{List, [], _∷_, _++_, append-assoc}
+use native.Mathlib.Decide.{decLe}
+use native.Mathlib.Numerals.{add-one}
+use native.Mathlib.Omega.{arith}
+use lib.Dec.{eqb, leb, ltb}
+use lib.ListN.{length, drop, take, set, length-append, length-drop}
+use lib.Seq.{sets-eq, take-at, drop-append-add, drop-drop}
+use borrow.Author.Tests.{eq-eqb, ne-eqb, le-ltb, lt-ltb}
+use Rattle.rating.specs.PermittedLoad.{permittedLoad}
+use Rattle.rating.specs.VehicleLoad.{vehicleLoadOn}
+use Rattle.rating.specs.Judgement.{verdictOf, permittedFor, passes, everyPasses, figure, firstPlace, governing, loads, written, ratingOf, judgementOf}
+use Rattle.rating.specs.Turn.{both, withMember}
+use Rattle.rating.specs.Surveyed.{memberAt}
+use Rattle.section.specs.declared.KgfPerM.{KgfPerM}
+use Rattle.rating.specs.declared.record.Member.{Member}
+use Rattle.rating.specs.declared.record.Vehicle.{Vehicle}
+use Rattle.rating.specs.declared.judging.Verdict.{Verdict}
+use Rattle.rating.specs.declared.judging.Rating.{Rating}
+use Rattle.rating.specs.declared.judging.Judgement.{Judgement}
+use Rattle.rating.proofs.Places.{figure-least, figure-had, place-kept, place-added}
+
+-- a rating from its parts
+pub rating-is :
+    (m : Member) (v : Vehicle) {p l : KgfPerM} {w : Verdict} {track : ℕ} → p .0 ≡ permittedLoad m (v .class) track → track ≡ v .track →
+    l .0 ≡ vehicleLoadOn m v → w ≡ verdictOf (leb (l .0) (p .0)) → _≡_ {A = Rating} (record { permitted = p; load = l; verdict = w }) (ratingOf m v)
+unfolding ratingOf passes
+rating-is m v hp ht hl hw = rw (← ht, ← hp, ← hl, ← hw)
+
+both-pass : (a b : Bool) → both (verdictOf a) (verdictOf b) ≡ verdictOf (a && b)
+both-pass true b = refl
+both-pass false b = refl
+
+module _ (v : Vehicle) (m : Member) where
+  every-added : (ms : List Member) → everyPasses v (ms ++ m ∷ []) ≡ (everyPasses v ms && passes v m)
+  unfolding everyPasses
+  every-added [] = and-true (passes v m)
+  every-added (n ∷ ms) = rw (every-added ms, and-assoc)
+
+  figure-added : (ms : List Member) → 1 ≤ length ms → figure v (ms ++ m ∷ []) ≡ min (figure v ms) (permittedFor v m)
+  unfolding figure
+  figure-added [] l = absurd (omega arith)
+  figure-added (n ∷ []) l = refl
+  figure-added (n ∷ o ∷ ms) l = omega (arith, figure-added (o ∷ ms) (omega arith))
+
+  -- a judgement from its parts
+  judgement-is : (ms : List Member) {f g : ℕ} {w : Verdict} → f ≡ figure v ms → g ≡ firstPlace v f ms → w ≡ verdictOf (everyPasses v ms) →
+      _≡_ {A = Judgement} (record { figure = record { 0 = f }; governing = g; verdict = w }) (judgementOf ms v)
+  unfolding judgementOf governing
+  judgement-is ms hf hg hw = rw (← hf, ← hg, ← hw)
+
+  verdict-added : (ms : List Member) → both (verdictOf (everyPasses v ms)) (verdictOf (passes v m)) ≡ verdictOf (everyPasses v (ms ++ m ∷ []))
+  verdict-added ms = rw (every-added ms) (both-pass (everyPasses v ms) (passes v m))
+
+  next-first : withMember (judgementOf [] v) (ratingOf m v) 1 ≡ judgementOf (m ∷ []) v
+  unfolding withMember judgementOf ratingOf figure governing firstPlace everyPasses
+  next-first = rw (eq-eqb (permittedFor v m) _ refl, and-true)
+
+  next-later : (ms : List Member) → 1 ≤ length ms → withMember (judgementOf ms v) (ratingOf m v) (length ms + 1) ≡ judgementOf (ms ++ m ∷ []) v
+  unfolding withMember judgementOf ratingOf governing
+  next-later ms l =
+      rw (ne-eqb (length ms + 1) 1 (omega arith))
+      (elim (decLe (figure v ms) (permittedFor v m)) [
+        | yes p ↦
+            rw (le-ltb (permittedFor v m) (figure v ms) p)
+            (judgement-is (ms ++ m ∷ []) {f = figure v ms} (omega (arith, figure-added ms l)) (rw (place-kept v (figure v ms) ms (m ∷ []) (figure-had v ms l))) (verdict-added ms))
+        | no n ↦
+            rw (lt-ltb (permittedFor v m) (figure v ms) (omega arith))
+            (judgement-is (ms ++ m ∷ []) {f = permittedFor v m} (omega (arith, figure-added ms l))
+            (rw (place-added v (permittedFor v m) ms m (λ k h e. omega (arith, figure-least v ms k h)) refl))
+            (verdict-added ms))
+      ])
+
+  pub judgement-next : (ms : List Member) → withMember (judgementOf ms v) (ratingOf m v) (length ms + 1) ≡ judgementOf (ms ++ m ∷ []) v
+  judgement-next [] = next-first
+  judgement-next (n ∷ ms) = next-later (n ∷ ms) (omega arith)
+
+  loads-added : (ms : List Member) → loads v (ms ++ m ∷ []) ≡ loads v ms ++ (permittedFor v m ∷ vehicleLoadOn m v ∷ [])
+  unfolding loads
+  loads-added [] = refl
+  loads-added (n ∷ ms) = rw (loads-added ms)
+
+pub loads-length : (v : Vehicle) (ms : List Member) → length (loads v ms) ≡ 2 * length ms
+unfolding loads
+loads-length v [] = refl
+loads-length v (m ∷ ms) = omega (arith, loads-length v ms)
+
+pub written-length : (v : Vehicle) (ms : List Member) (list : List ℕ) → 2 * length ms ≤ length list → length (written v ms list) ≡ length list
+unfolding written
+written-length v ms list h = simp (length-append, length-drop) (omega (arith, loads-length v ms))
+
+-- two numbers stored after the first k, which stand before the rest of the list
+pair-stored :
+    (xs list : List ℕ) (k a b : ℕ) → length xs ≡ k → k + 2 ≤ length list →
+    set (set (xs ++ drop k list) k a) (suc k) b ≡ xs ++ (a ∷ b ∷ []) ++ drop (k + 2) list
+pair-stored xs list k a b e h =
+    sets-eq (a ∷ b ∷ []) (xs ++ drop k list) k (simp (length-append, length-drop) (omega arith))
+    ∙ rw (take-at xs (drop k list) k e, ← e, drop-append-add xs (drop (length xs) list) 2, drop-drop)
+
+pub written-next :
+    (v : Vehicle) (m : Member) (ms : List Member) (list : List ℕ) (i : ℕ) → length ms ≡ i → 2 * i + 2 ≤ length list →
+    set (set (written v ms list) (2 * i) (permittedFor v m)) (2 * i + 1) (vehicleLoadOn m v) ≡ written v (ms ++ m ∷ []) list
+unfolding written
+written-next v m ms list i e h =
+    rw (add-one, loads-added v m ms, length-append, e)
+    (pair-stored (loads v ms) list (2 * i) _ _ (omega (arith, loads-length v ms)) h ∙ rw (two) refl)
+  where
+    two : 2 * i + 2 ≡ 2 * (i + 1)
+    two = omega arith
