@@ -8,4 +8,5 @@ pub mod Quantities
 pub mod Whole
 pub mod Lines
 pub mod Places
+pub mod Surveys
 pub mod Turns

@@ -3,7 +3,7 @@
 use Prim.Native.Nat.{ℕ, zero, suc, _+_, _-_, _≤_, _<_, min}
 use mathlib.Core.Path.{_≡_, refl}
 use mathlib.Core.List.{List, [], _∷_, _++_}
-use native.Mathlib.Decide.{decLe, decEq}
+use native.Mathlib.Decide.{decLe, ℕ-discrete}
 use native.Mathlib.Omega.{arith}
 use lib.ListN.{length}
 use borrow.Author.Tests.{eq-eqb, ne-eqb}
@@ -62,14 +62,10 @@ module _ (v : Vehicle) where
         record {
           low = omega arith;
           high = omega (arith, f .high);
-          permits = at g (f .low) (f .permits);
+          permits = let e : 1 + g - 1 ≡ suc (g - 1) = omega (arith, f .low) in rw e (f .permits);
           before = λ k l e. earlier k l e;
         }
       where
-        at : (g : ℕ) → 1 ≤ g → permittedFor v (memberAt ms (g - 1)) ≡ load → permittedFor v (memberAt (m ∷ ms) (1 + g - 1)) ≡ load
-        at zero l e = absurd (omega arith)
-        at (suc g) l e = e
-
         earlier : (k : ℕ) → k + 1 < 1 + g → permittedFor v (memberAt (m ∷ ms) k) ≡ load → ⊥
         earlier zero l e = n e
         earlier (suc k) l e = f .before k (omega arith) e
@@ -78,7 +74,7 @@ module _ (v : Vehicle) where
     unfolding firstPlace
     first-place [] h = absurd (omega (arith, h .inside))
     first-place (m ∷ ms) h =
-        elim (decEq (permittedFor v m) load) [
+        elim (ℕ-discrete (permittedFor v m) load) [
           | yes e ↦ rw (eq-eqb _ _ e) (record { low = omega arith; high = omega arith; permits = e; before = λ k l d. omega arith })
           | no n ↦ rw (ne-eqb _ _ n) (after m ms (firstPlace v load ms) n (first-place ms (later m ms n h)))
         ]
@@ -88,7 +84,7 @@ module _ (v : Vehicle) where
     unfolding firstPlace
     place-kept [] rest h = absurd (omega (arith, h .inside))
     place-kept (m ∷ ms) rest h =
-        elim (decEq (permittedFor v m) load) [
+        elim (ℕ-discrete (permittedFor v m) load) [
           | yes e ↦ rw (eq-eqb _ _ e)
           | no n ↦ rw (ne-eqb _ _ n, place-kept ms rest (later m ms n h))
         ]

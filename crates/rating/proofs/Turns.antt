@@ -9,27 +9,29 @@ use native.Mathlib.Decide.{decLe}
 use native.Mathlib.Numerals.{add-one}
 use native.Mathlib.Omega.{arith}
 use lib.Dec.{eqb, leb, ltb}
-use lib.ListN.{length, drop, take, set, length-append, length-drop}
-use lib.Seq.{sets-eq, take-at, drop-append-add, drop-drop}
+use lib.ListN.{length, drop, take, set, length-append, length-drop, length-take}
+use lib.Seq.{sets-eq, take-at, take-suc, drop-append-add, drop-drop, length-take-le}
 use borrow.Author.Tests.{eq-eqb, ne-eqb, le-ltb, lt-ltb}
 use Rattle.rating.specs.PermittedLoad.{permittedLoad}
 use Rattle.rating.specs.VehicleLoad.{vehicleLoadOn}
 use Rattle.rating.specs.Judgement.{verdictOf, permittedFor, passes, everyPasses, figure, firstPlace, governing, loads, written, ratingOf, judgementOf}
 use Rattle.rating.specs.Turn.{both, withMember}
-use Rattle.rating.specs.Surveyed.{memberAt}
+use Rattle.rating.specs.Surveyed.{memberAt, AllowedSurvey}
 use Rattle.section.specs.declared.KgfPerM.{KgfPerM}
 use Rattle.rating.specs.declared.record.Member.{Member}
+use Rattle.rating.specs.declared.record.Survey.{Survey}
 use Rattle.rating.specs.declared.record.Vehicle.{Vehicle}
 use Rattle.rating.specs.declared.judging.Verdict.{Verdict}
 use Rattle.rating.specs.declared.judging.Rating.{Rating}
 use Rattle.rating.specs.declared.judging.Judgement.{Judgement}
 use Rattle.rating.proofs.Places.{figure-least, figure-had, place-kept, place-added}
+use Rattle.rating.proofs.Surveys.{listed}
 
 -- a rating from its parts
 pub rating-is :
     (m : Member) (v : Vehicle) {p l : KgfPerM} {w : Verdict} {track : ℕ} → p .0 ≡ permittedLoad m (v .class) track → track ≡ v .track →
     l .0 ≡ vehicleLoadOn m v → w ≡ verdictOf (leb (l .0) (p .0)) → _≡_ {A = Rating} (record { permitted = p; load = l; verdict = w }) (ratingOf m v)
-unfolding ratingOf passes
+unfolding ratingOf passes vehicleLoadOn
 rating-is m v hp ht hl hw = rw (← ht, ← hp, ← hl, ← hw)
 
 both-pass : (a b : Bool) → both (verdictOf a) (verdictOf b) ≡ verdictOf (a && b)
@@ -112,3 +114,26 @@ written-next v m ms list i e h =
   where
     two : 2 * i + 2 ≡ 2 * (i + 1)
     two = omega arith
+
+-- a turn of the loop
+module _ (v : Vehicle) {s : Survey} (a : AllowedSurvey s) (i : ℕ) (l : i < s .count) {r : Rating} (hr : r ≡ ratingOf (memberAt (s .members) i) v) where
+  passed : length (take i (s .members)) ≡ i
+  passed = length-take-le i (s .members) (omega (arith, listed a i l))
+
+  next : take (i + 1) (s .members) ≡ take i (s .members) ++ (memberAt (s .members) i ∷ [])
+  next = rw add-one (take-suc (s .members) i _ (listed a i l))
+
+  pub turn-judged : {j k : Judgement} → j ≡ judgementOf (take i (s .members)) v → k ≡ withMember j r (i + 1) → k ≡ judgementOf (take (i + 1) (s .members)) v
+  turn-judged hj hk = rw next (hk ∙ rw (hj, hr) (rw passed at (judgement-next v (memberAt (s .members) i) (take i (s .members)))))
+
+  pub turn-written :
+      (list : List ℕ) {now : List ℕ} → 2 * s .count ≤ length list → now ≡ written v (take i (s .members)) list →
+      set (set now (2 * i) (r .permitted .0)) (2 * i + 1) (r .load .0) ≡ written v (take (i + 1) (s .members)) list
+  unfolding ratingOf
+  turn-written list h e = rw (next, e, hr) (written-next v (memberAt (s .members) i) (take i (s .members)) list i passed (omega arith))
+
+-- the list keeps its length
+pub list-length :
+    (v : Vehicle) (s : Survey) (list : List ℕ) (i : ℕ) {now : List ℕ} → i ≤ s .count → 2 * s .count ≤ length list → now ≡ written v (take i (s .members)) list →
+    length now ≡ length list
+list-length v s list i l h e = rw e (written-length v (take i (s .members)) list (simp length-take (omega arith)))

@@ -1,19 +1,14 @@
 -- A survey's members, and what a survey may hold. Document 01, 'Files': "Survey: .. u8 count 1..64, then per member 16 u16".
 use Prim.Native.Nat.{ℕ, _<_}
-use mathlib.Core.List.{List}
-use lib.ListN.{length, take, getD, replicate}
-use Rattle.rating.specs.Fields.{FIELDS}
+use mathlib.Core.List.{List, []}
+use lib.ListN.{length, take, getD}
 use Rattle.rating.specs.Format.{AllowedMember, In, _‥_}
 use Rattle.rating.specs.declared.record.Member.{Member}
 use Rattle.rating.specs.declared.record.Survey.{Survey}
 
--- what stands at a place past the last member
-abbrev pub noMember : Member
-noMember = record { fields = replicate FIELDS 0 }
-
--- the member at an index, from 0
+-- the member at an index, from 0; past the last one a record with no numbers, which is not allowed
 abbrev pub memberAt : List Member → ℕ → Member
-memberAt ms i = getD ms i noMember
+memberAt ms i = getD ms i (record { fields = [] })
 
 abbrev pub AllowedMembers : List Member → Type 0
 AllowedMembers ms = (i : ℕ) → i < length ms → AllowedMember (memberAt ms i)
@@ -24,4 +19,4 @@ membersOf s = take (s .count) (s .members)
 
 pub record AllowedSurvey (s : Survey) : Type 0 where
   pub count : In (1 ‥ 64) (s .count)
-  pub members : AllowedMembers (membersOf s)
+  pub members : (i : ℕ) → i < s .count → AllowedMember (memberAt (s .members) i)
