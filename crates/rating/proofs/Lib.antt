@@ -10,3 +10,4 @@ pub mod Lines
 pub mod Places
 pub mod Surveys
 pub mod Turns
+pub mod Judged

@@ -14,7 +14,7 @@ use lib.Seq.{sets-eq, take-at, take-suc, drop-append-add, drop-drop, length-take
 use borrow.Author.Tests.{eq-eqb, ne-eqb, le-ltb, lt-ltb}
 use Rattle.rating.specs.PermittedLoad.{permittedLoad}
 use Rattle.rating.specs.VehicleLoad.{vehicleLoadOn}
-use Rattle.rating.specs.Judgement.{verdictOf, permittedFor, passes, everyPasses, figure, firstPlace, governing, loads, written, ratingOf, judgementOf}
+use Rattle.rating.specs.Judgement.{verdictOf, permittedFor, passes, everyPasses, least, firstWith, figure, loads, written, ratingOf, judgementOf}
 use Rattle.rating.specs.Turn.{both, withMember}
 use Rattle.rating.specs.Surveyed.{memberAt, AllowedSurvey}
 use Rattle.section.specs.declared.KgfPerM.{KgfPerM}
@@ -24,7 +24,7 @@ use Rattle.rating.specs.declared.record.Vehicle.{Vehicle}
 use Rattle.rating.specs.declared.judging.Verdict.{Verdict}
 use Rattle.rating.specs.declared.judging.Rating.{Rating}
 use Rattle.rating.specs.declared.judging.Judgement.{Judgement}
-use Rattle.rating.proofs.Places.{figure-least, figure-had, place-kept, place-added}
+use Rattle.rating.proofs.Places.{least-below, least-had, place-kept, place-added}
 use Rattle.rating.proofs.Surveys.{listed}
 
 -- a rating from its parts
@@ -45,36 +45,36 @@ module _ (v : Vehicle) (m : Member) where
   every-added (n ∷ ms) = rw (every-added ms, and-assoc)
 
   figure-added : (ms : List Member) → 1 ≤ length ms → figure v (ms ++ m ∷ []) ≡ min (figure v ms) (permittedFor v m)
-  unfolding figure
+  unfolding least
   figure-added [] l = absurd (omega arith)
   figure-added (n ∷ []) l = refl
   figure-added (n ∷ o ∷ ms) l = omega (arith, figure-added (o ∷ ms) (omega arith))
 
   -- a judgement from its parts
-  judgement-is : (ms : List Member) {f g : ℕ} {w : Verdict} → f ≡ figure v ms → g ≡ firstPlace v f ms → w ≡ verdictOf (everyPasses v ms) →
+  judgement-is : (ms : List Member) {f g : ℕ} {w : Verdict} → f ≡ figure v ms → g ≡ firstWith (permittedFor v) f ms → w ≡ verdictOf (everyPasses v ms) →
       _≡_ {A = Judgement} (record { figure = record { 0 = f }; governing = g; verdict = w }) (judgementOf ms v)
-  unfolding judgementOf governing
+  unfolding judgementOf
   judgement-is ms hf hg hw = rw (← hf, ← hg, ← hw)
 
   verdict-added : (ms : List Member) → both (verdictOf (everyPasses v ms)) (verdictOf (passes v m)) ≡ verdictOf (everyPasses v (ms ++ m ∷ []))
   verdict-added ms = rw (every-added ms) (both-pass (everyPasses v ms) (passes v m))
 
   next-first : withMember (judgementOf [] v) (ratingOf m v) 1 ≡ judgementOf (m ∷ []) v
-  unfolding withMember judgementOf ratingOf figure governing firstPlace everyPasses
+  unfolding withMember judgementOf ratingOf least firstWith everyPasses
   next-first = rw (eq-eqb (permittedFor v m) _ refl, and-true)
 
   next-later : (ms : List Member) → 1 ≤ length ms → withMember (judgementOf ms v) (ratingOf m v) (length ms + 1) ≡ judgementOf (ms ++ m ∷ []) v
-  unfolding withMember judgementOf ratingOf governing
+  unfolding withMember judgementOf ratingOf
   next-later ms l =
       rw (ne-eqb (length ms + 1) 1 (omega arith))
       (elim (decLe (figure v ms) (permittedFor v m)) [
         | yes p ↦
             rw (le-ltb (permittedFor v m) (figure v ms) p)
-            (judgement-is (ms ++ m ∷ []) {f = figure v ms} (omega (arith, figure-added ms l)) (rw (place-kept v (figure v ms) ms (m ∷ []) (figure-had v ms l))) (verdict-added ms))
+            (judgement-is (ms ++ m ∷ []) {f = figure v ms} (omega (arith, figure-added ms l)) (rw (place-kept (permittedFor v) (figure v ms) ms (m ∷ []) (least-had (permittedFor v) ms l))) (verdict-added ms))
         | no n ↦
             rw (lt-ltb (permittedFor v m) (figure v ms) (omega arith))
             (judgement-is (ms ++ m ∷ []) {f = permittedFor v m} (omega (arith, figure-added ms l))
-            (rw (place-added v (permittedFor v m) ms m (λ k h e. omega (arith, figure-least v ms k h)) refl))
+            (rw (place-added (permittedFor v) (permittedFor v m) ms m (λ k h e. omega (arith, least-below (permittedFor v) ms k h)) refl))
             (verdict-added ms))
       ])
 

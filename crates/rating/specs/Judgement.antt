@@ -19,6 +19,17 @@ abbrev pub verdictOf : (passes : Bool) → Verdict
 verdictOf true = Pass
 verdictOf false = Refuse
 
+-- the least that f gives over the members
+unfoldable pub least : (f : Member → ℕ) → List Member → ℕ
+least f [] = 0
+least f (m ∷ []) = f m
+least f (m ∷ n ∷ ms) = min (f m) (least f (n ∷ ms))
+
+-- the place of the first member of which f gives x: "Places start at 1."
+unfoldable pub firstWith : (f : Member → ℕ) (x : ℕ) → List Member → ℕ
+firstWith f x [] = 0
+firstWith f x (m ∷ ms) = choose (eqb (f m) x) 1 (1 + firstWith f x ms)
+
 module _ (v : Vehicle) where
   -- the permitted load of a member for the vehicle
   abbrev pub permittedFor : Member → ℕ
@@ -34,19 +45,12 @@ module _ (v : Vehicle) where
   everyPasses (m ∷ ms) = passes m && everyPasses ms
 
   -- "The bridge's figure is the least permitted load"
-  unfoldable pub figure : List Member → ℕ
-  figure [] = 0
-  figure (m ∷ []) = permittedFor m
-  figure (m ∷ n ∷ ms) = min (permittedFor m) (figure (n ∷ ms))
-
-  -- the place of the first member that has this permitted load: "Places start at 1."
-  unfoldable pub firstPlace : (load : ℕ) → List Member → ℕ
-  firstPlace load [] = 0
-  firstPlace load (m ∷ ms) = choose (eqb (permittedFor m) load) 1 (1 + firstPlace load ms)
+  abbrev pub figure : List Member → ℕ
+  figure ms = least permittedFor ms
 
   -- "and the member that has it governs, the first by place on a tie"
-  unfoldable pub governing : List Member → ℕ
-  governing ms = firstPlace (figure ms) ms
+  abbrev pub governing : List Member → ℕ
+  governing ms = firstWith permittedFor (figure ms) ms
 
   -- "fills a lent list of u64 with permitted load and vehicle load, two numbers a member; entries beyond are kept"
   unfoldable pub loads : List Member → List ℕ
