@@ -2,6 +2,7 @@
 use Prim.Native.Nat.{ℕ, _<_}
 use mathlib.Core.List.{List, []}
 use lib.ListN.{length, take, getD}
+use Rattle.rating.specs.Fields.{MOST-MEMBERS}
 use Rattle.rating.specs.Format.{AllowedMember, In, _‥_}
 use Rattle.rating.specs.declared.record.Member.{Member}
 use Rattle.rating.specs.declared.record.Survey.{Survey}
@@ -18,5 +19,5 @@ abbrev pub membersOf : Survey → List Member
 membersOf s = take (s .count) (s .members)
 
 pub record AllowedSurvey (s : Survey) : Type 0 where
-  pub count : In (1 ‥ 64) (s .count)
+  pub count : In (1 ‥ MOST-MEMBERS) (s .count)
   pub members : (i : ℕ) → i < s .count → AllowedMember (memberAt (s .members) i)

@@ -1,21 +1,13 @@
 // The load that a vehicle's axles put on a member, over the member's influence line.
 ghost use mathlib.Core.Path.{_≡_};
-ghost use Prim.Native.Nat.{_*_, _≤_};
 ghost use Rattle.rating.specs.Format.{AllowedMember, AllowedVehicle};
 ghost use Rattle.rating.specs.VehicleLoad.{influenceLine, vehicleLoadOn};
 use crate::record::*;
 use influence::HalfCm;
+use influence::half_cm;
 use influence::vehicle_load;
 use section::Cm;
 use section::KgfPerM;
-
-// Two half centimetres to the centimetre.
-fn half_cm(d: Cm) -> HalfCm
-    requires { ⌜ d .0 ≤ 5000 ⌝ }
-    ensures { λ r. ⌜ r .0 ≡ 2 * d .0 ⌝ }
-{
-    HalfCm(2 * d.0)
-}
 
 // The base: two panels for a cross beam, else the span.
 fn base_of(m: Member) -> HalfCm
