@@ -50,6 +50,10 @@ pub record Sized (line : Line) : Type 0 where
   pub triangle : Triangle (line .base) (line .apex)
   pub base-high : line .base ≤ 10000
 
+-- so an apex at x stands at most 5000 cm from the end
+pub distance-high : {line : Line} {x : ℕ} → Sized line → line .apex ≡ 2 * x → x ≤ 5000
+distance-high s e = omega arith
+
 module _ {m : Member} (a : AllowedMember m) where
   pub span-high : field m SPAN ≤ 5000
   span-high = sizes a 0 11 (omega arith) (omega arith) .span-high

@@ -1,9 +1,10 @@
 -- `rating::vehicle::apex_of` meets its contract: the middle where the kind is 1, else the distance x.
 -- Assumes nothing.
-use native.Mathlib.Omega.{arith}
-use mathlib.Core.Path.{_≡_}
+use Prim.Native.Nat.{ℕ, _*_, _≤_}
+use mathlib.Core.Path.{_≡_, ap, sym, subst⁻¹, _∙_}
 use Rattle.rating.specs.Fields.{KIND, SPAN, DISTANCE, field}
-use Rattle.rating.proofs.Lines.{apex-is-middle, apex-is-distance, line-sized}
+use Rattle.rating.specs.VehicleLoad.{influenceLine}
+use Rattle.rating.proofs.Lines.{apex-is-middle, apex-is-distance, distance-high, line-sized}
 use borrow.Author.Needs.{needs}
 use Rattle.rating.proofs.vehicle.apex_of.Statement.{statement}
 use Rattle.rating.proofs.vehicle.apex_of.Tie as tie
@@ -16,23 +17,27 @@ number-requires-2 c κs = search needs
 
 returns : tie.Need-returns
 returns c =
-    let m = c .before .before .before .args .m in
-    let kind : field m KIND ≡ 1 = cc in
-    omega (arith, apex-is-middle (field m KIND) (field m SPAN) (field m DISTANCE) kind)
+    let at = c .before in
+    let m = at .before .before .args .m in
+    c .number2 .ensures
+    ∙ sym (apex-is-middle (field m KIND) (field m SPAN) (field m DISTANCE) (sym (at .before .number .ensures) ∙ at .if1 .taken))
 
 length-requires : tie.Need-length-requires
 length-requires c κs = search needs
 
+-- past the branch the apex is at x
+at-distance : (c : tie.Else1) → let m = c .before .before .args .m in influenceLine m .apex ≡ 2 * field m DISTANCE
+at-distance c =
+    let m = c .before .before .args .m in
+    apex-is-distance (field m KIND) (field m SPAN) (field m DISTANCE) (λ e. c .if1 .left (c .before .number .ensures ∙ e))
+
 half-cm-requires : tie.Need-half-cm-requires
 half-cm-requires c κs =
-    let start = c .before .before .before in
-    let m = start .args .m in
-    omega (arith, line-sized (start .pre), apex-is-distance (field m KIND) (field m SPAN) (field m DISTANCE) (λ e. omega arith))
+    subst⁻¹ (λ (x : ℕ). x ≤ 5000) (c .length .ensures) (distance-high (line-sized (c .before .before .before .pre)) (at-distance (c .before)))
 
 returns-2 : tie.Need-returns-2
 returns-2 c =
-    let m = c .before .before .before .before .args .m in
-    omega (arith, apex-is-distance (field m KIND) (field m SPAN) (field m DISTANCE) (λ e. omega arith))
+    c .half-cm .ensures ∙ ap (λ (x : ℕ). 2 * x) (c .before .length .ensures) ∙ sym (at-distance (c .before .before))
 
 pub apex-of-spec : {M : Type 1} → statement M
 apex-of-spec =
