@@ -1,5 +1,5 @@
--- Cited by other crates: `Surveys` and `Vehicles`, with the laws of their parts.
-mod Tests
+-- Cited by other crates: `Surveys` and `Vehicles`, with the laws of their parts, and `Tests`.
+pub mod Tests
 mod Tables
 mod Headers
 pub mod Each

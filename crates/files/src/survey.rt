@@ -96,14 +96,21 @@ fn members_of(bytes: &[u8], count: usize) -> [Member; MOST_MEMBERS]
     members
 }
 
+// No members.
+pub fn blank_survey() -> Survey
+    ensures { λ r. ⌜ r ≡ blankSurvey ⌝ }
+{
+    let blank = blank_member();
+    Survey {
+        count: 0,
+        members: [blank; MOST_MEMBERS],
+    }
+}
+
 fn refused(answer: Reading) -> SurveyRead
     ensures { λ r. ⌜ (r .answer ≡ answer) × (r .survey ≡ blankSurvey) ⌝ }
 {
-    let blank = blank_member();
-    let survey = Survey {
-        count: 0,
-        members: [blank; MOST_MEMBERS],
-    };
+    let survey = blank_survey();
     SurveyRead { answer, survey }
 }
 

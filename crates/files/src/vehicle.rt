@@ -116,16 +116,23 @@ fn vehicle_of(bytes: &[u8], axles: usize) -> Vehicle
     }
 }
 
-fn refused(answer: Reading) -> VehicleRead
-    ensures { λ r. ⌜ (r .answer ≡ answer) × (r .vehicle ≡ blankVehicle) ⌝ }
+// No axles.
+pub fn blank_vehicle() -> Vehicle
+    ensures { λ r. ⌜ r ≡ blankVehicle ⌝ }
 {
-    let vehicle = Vehicle {
+    Vehicle {
         class: 0,
         track: 0,
         axles: 0,
         weights: [0u32; MOST_AXLES],
         distances: [0u16; MOST_AXLES],
-    };
+    }
+}
+
+fn refused(answer: Reading) -> VehicleRead
+    ensures { λ r. ⌜ (r .answer ≡ answer) × (r .vehicle ≡ blankVehicle) ⌝ }
+{
+    let vehicle = blank_vehicle();
     VehicleRead { answer, vehicle }
 }
 

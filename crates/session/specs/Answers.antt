@@ -19,21 +19,27 @@ use Rattle.session.specs.declared.Rated.the-variants.{Loads}
 use Rattle.session.specs.declared.Rated.the-variants.{Refused as NotRated}
 use Rattle.session.specs.declared.Session.{Session}
 
--- A number of the list of refusals with its place, or 0 and the values of a call that succeeds. "A refusal carries its number and
--- place, nothing else."
-pub record Answer : Type 0 where
-  pub number : ℕ
-  pub place : ℕ
-  pub values : List ℕ
+-- The values of a call that succeeds, or a number of the list of refusals with its place. "A refusal carries its number and place,
+-- nothing else."
+pub data Answer : Type 0 where
+  Values : List ℕ → Answer
+  RefusedAt : (number place : ℕ) → Answer
 
-abbrev pub succeeded : List ℕ → Answer
-succeeded values = record { number = 0; place = 0; values = values }
+-- the number of an answer, 0 where the call succeeds, and its place
+abbrev pub numberOf : Answer → ℕ
+numberOf (Values values) = 0
+numberOf (RefusedAt number place) = number
 
-abbrev pub refusedAt : (number place : ℕ) → Answer
-refusedAt number place = record { number = number; place = place; values = [] }
+abbrev pub placeOf : Answer → ℕ
+placeOf (Values values) = 0
+placeOf (RefusedAt number place) = place
+
+abbrev pub valuesOf : Answer → List ℕ
+valuesOf (Values values) = values
+valuesOf (RefusedAt number place) = []
 
 abbrev pub refusedBy : Refusal → Answer
-refusedBy r = refusedAt (r .number) (r .place)
+refusedBy r = RefusedAt (r .number) (r .place)
 
 -- pass is 1, refuse is 0
 abbrev pub verdictNumber : Verdict → ℕ
@@ -49,15 +55,15 @@ abbrev pub judgementValues : Judgement → List ℕ
 judgementValues j = j .figure .0 ∷ j .governing ∷ verdictNumber (j .verdict) ∷ []
 
 abbrev pub loadAnswer : Reading → Answer
-loadAnswer Taken = succeeded []
+loadAnswer Taken = Values []
 loadAnswer (Refused r) = refusedBy r
 
 abbrev pub rateAnswer : Rated → Answer
-rateAnswer (Loads r) = succeeded (ratingValues r)
+rateAnswer (Loads r) = Values (ratingValues r)
 rateAnswer (NotRated r) = refusedBy r
 
 abbrev pub judgeAnswer : Judged → Answer
-judgeAnswer (Figures j) = succeeded (judgementValues j)
+judgeAnswer (Figures j) = Values (judgementValues j)
 judgeAnswer (NotJudged r) = refusedBy r
 
 -- what a call leaves and answers

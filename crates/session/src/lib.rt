@@ -2,11 +2,16 @@
 // the answer.
 ghost use mathlib.Core.Path.{_≡_};
 ghost use Rattle.session.specs.Answers.{loaded, rated, judged, judgeAnswer};
-ghost use Rattle.session.specs.Calls.{Sound, newSession, loadSurvey, loadVehicle, rate, judge, judgeList, judgeFiles};
+ghost use Prim.Native.Nat.{_≤_};
+ghost use Rattle.rating.specs.Fields.{MOST-MEMBERS};
+ghost use Rattle.session.specs.Calls.{Sound, newSession, loadSurvey, loadVehicle, stateFault, rateFault, judgeFault, rate, judge, judgeList, judgeFiles};
 use files::Reading;
 use files::Refusal;
+use files::survey::blank_survey;
 use files::survey::read_survey;
+use files::vehicle::blank_vehicle;
 use files::vehicle::read_vehicle;
+use rating::judging;
 use rating::judging::Judgement;
 use rating::judging::Rating;
 use rating::record::MOST_MEMBERS;
@@ -52,8 +57,8 @@ impl Session {
         ensures is { λ r. ⌜ r ≡ newSession ⌝ }
         ensures sound { λ r. ⌜ Sound r ⌝ }
     {
-        let survey = rating::record::no_survey();
-        let vehicle = rating::record::no_vehicle();
+        let survey = blank_survey();
+        let vehicle = blank_vehicle();
         Self { survey, vehicle }
     }
 
@@ -100,4 +105,122 @@ impl Session {
             },
         }
     }
+}
+
+// 11 no survey, 12 no vehicle, or 0.
+fn state_fault(members: usize, axles: usize) -> u64
+    ensures { λ r. ⌜ r ≡ stateFault members axles ⌝ }
+{
+    if members == 0 {
+        return 11;
+    }
+    if axles == 0 {
+        return 12;
+    }
+    0
+}
+
+// 11, 12, 13 no such place, or 0.
+fn rate_fault(members: usize, axles: usize, place: u64) -> u64
+    ensures { λ r. ⌜ r ≡ rateFault members axles place ⌝ }
+{
+    let fault = state_fault(members, axles);
+    if fault != 0 {
+        return fault;
+    }
+    if place < 1 {
+        return 13;
+    }
+    if (members as u64) < place {
+        return 13;
+    }
+    0
+}
+
+// 11, 12, 14 list shorter than two entries a member, or 0. A survey has at most 64 members.
+fn judge_fault(members: usize, axles: usize, entries: usize) -> u64
+    requires { ⌜ members ≤ MOST-MEMBERS ⌝ }
+    ensures { λ r. ⌜ r ≡ judgeFault members axles entries ⌝ }
+{
+    let fault = state_fault(members, axles);
+    if fault != 0 {
+        return fault;
+    }
+    if entries < 2 * members {
+        return 14;
+    }
+    0
+}
+
+impl Session {
+    // Rate the member at a place.
+    pub fn rate(self, place: u64) -> AfterRate
+        requires { ⌜ Sound self ⌝ }
+        ensures is { λ r. ⌜ rated r ≡ rate self place ⌝ }
+        ensures sound { λ r. ⌜ Sound (r .session) ⌝ }
+    {
+        let survey = self.survey;
+        let vehicle = self.vehicle;
+        let number = rate_fault(survey.count, vehicle.axles, place);
+        if number != 0 {
+            let answer = Rated::Refused(Refusal { number, place: 0 });
+            return AfterRate {
+                session: self,
+                answer,
+            };
+        }
+        let at = (place - 1) as usize;
+        let m = survey.members[at];
+        let answer = Rated::Loads(judging::rate(m, vehicle));
+        AfterRate {
+            session: self,
+            answer,
+        }
+    }
+
+    // Judge the bridge, and fill the list with permitted load and vehicle load of each member.
+    pub fn judge(self, list: &mut [u64]) -> AfterJudge
+        requires { ⌜ Sound self ⌝ }
+        ensures is { λ r. ⌜ judged r ≡ judge self (now (list .entry)) ⌝ }
+        ensures list { λ r. ⌜ now (list .exit) ≡ judgeList self (now (list .entry)) ⌝ }
+        ensures sound { λ r. ⌜ Sound (r .session) ⌝ }
+    {
+        let survey = self.survey;
+        let vehicle = self.vehicle;
+        let number = judge_fault(survey.count, vehicle.axles, list.len());
+        if number != 0 {
+            let answer = Judged::Refused(Refusal { number, place: 0 });
+            return AfterJudge {
+                session: self,
+                answer,
+            };
+        }
+        let answer = Judged::Figures(judging::judge(survey, vehicle, list));
+        AfterJudge {
+            session: self,
+            answer,
+        }
+    }
+}
+
+// The judgement on the bytes of a survey file and a vehicle file: the refusal of the first that is refused, or figure, governing
+// place and verdict.
+pub fn judge_files(survey: &[u8], vehicle: &[u8]) -> Judged
+    ensures { λ r. ⌜ judgeAnswer r ≡ judgeFiles (now (survey .entry)) (now (vehicle .entry)) .answer ⌝ }
+{
+    let first = Session::new().load_survey(survey);
+    let taken = first.answer;
+    if let Reading::Refused(refusal) = taken {
+        return Judged::Refused(refusal);
+    }
+    let surveyed = first.session;
+    let second = surveyed.load_vehicle(vehicle);
+    let taken = second.answer;
+    if let Reading::Refused(refusal) = taken {
+        return Judged::Refused(refusal);
+    }
+    let mut list = [0u64; 2 * MOST_MEMBERS];
+    let ready = second.session;
+    let third = ready.judge(&mut list);
+    third.answer
 }

@@ -1,0 +1,127 @@
+-- What the tests of the state say where they find no fault, and that every call leaves a sound session.
+-- Assumes nothing.
+use Prim.Native.Nat.{ℕ, _-_, _*_, _≤_, _<_}
+use mathlib.Core.Path.{_≡_, refl, sym, _∙_}
+use mathlib.Core.Bool.{Bool, true, false, not}
+use mathlib.Core.List.{List, [], _∷_}
+use native.Mathlib.Decide.{decLe}
+use native.Mathlib.Omega.{arith}
+use Rattle.rating.specs.Fields.{MOST-MEMBERS}
+use lib.Dec.{eqb, leb}
+use lib.ListN.{replicate}
+use borrow.Author.Tests.{eqb-false, leb-true, ne-eqb}
+use Rattle.rating.specs.Format.{AllowedMember, AllowedVehicle, In, _‥_}
+use Rattle.rating.specs.Surveyed.{AllowedSurvey, membersOf, memberAt}
+use Rattle.rating.specs.declared.record.Survey.{Survey}
+use Rattle.rating.specs.declared.record.Vehicle.{Vehicle}
+use Rattle.files.specs.Reading.{_unless_, firstOf, isIn}
+use Rattle.files.specs.SurveyFile.{readSurvey}
+use Rattle.files.specs.VehicleFile.{readVehicle}
+use Rattle.files.specs.declared.Reading.the-variants.{Taken, Refused}
+use Rattle.files.specs.declared.Refusal.{Refusal}
+use Rattle.files.specs.declared.SurveyRead.{SurveyRead}
+use Rattle.files.specs.declared.VehicleRead.{VehicleRead}
+use Rattle.files.proofs.Tests.{none, passed, in-range}
+use Rattle.files.proofs.Surveys.{taken-count, taken-members}
+use Rattle.files.proofs.Vehicles.{taken-sound}
+use Rattle.session.specs.Answers.{loaded, judged, judgeAnswer, refusedBy}
+use Rattle.session.specs.Calls.{Sound, newSession, stateFault, rateFault, judgeFault, loadSurvey, loadVehicle, judge, judgeFiles}
+use Rattle.session.specs.declared.AfterJudge.{AfterJudge}
+use Rattle.session.specs.declared.AfterLoad.{AfterLoad}
+use Rattle.session.specs.declared.Session.{Session}
+
+not-none : (n : ℕ) → not (eqb n 0) ≡ true → 0 < n
+not-none n h = go (eqb n 0) refl h
+  where
+    go : (t : Bool) → eqb n 0 ≡ t → not t ≡ true → 0 < n
+    go true e h = absurd (mathlib.Core.Bool.false≢true h)
+    go false e h = omega (arith, eqb-false n 0 e)
+
+-- a survey and a vehicle are loaded
+pub record Ready (members axles : ℕ) : Type 0 where
+  pub survey : 0 < members
+  pub vehicle : 0 < axles
+
+pub state-clear : (members axles : ℕ) → stateFault members axles ≡ 0 → Ready members axles
+unfolding stateFault
+state-clear members axles e =
+    let first = none (11 unless not (eqb members 0)) (12 unless not (eqb axles 0) ∷ []) e in
+    let second = none (12 unless not (eqb axles 0)) [] (first .1) in
+    record {
+      survey = not-none members (passed 11 (not (eqb members 0)) (omega arith) (first .0));
+      vehicle = not-none axles (passed 12 (not (eqb axles 0)) (omega arith) (second .0));
+    }
+
+pub rate-clear : (members axles place : ℕ) → rateFault members axles place ≡ 0 → Ready members axles × (In (1 ‥ members) place)
+unfolding rateFault
+rate-clear members axles place e =
+    let first = none (stateFault members axles) (13 unless isIn (1 ‥ members) place ∷ []) e in
+    let second = none (13 unless isIn (1 ‥ members) place) [] (first .1) in
+    (state-clear members axles (first .0), in-range (1 ‥ members) place (passed 13 (isIn (1 ‥ members) place) (omega arith) (second .0)))
+
+pub judge-clear : (members axles entries : ℕ) → judgeFault members axles entries ≡ 0 → Ready members axles × (2 * members ≤ entries)
+unfolding judgeFault
+judge-clear members axles entries e =
+    let first = none (stateFault members axles) (14 unless leb (2 * members) entries ∷ []) e in
+    let second = none (14 unless leb (2 * members) entries) [] (first .1) in
+    (state-clear members axles (first .0), leb-true (2 * members) entries (passed 14 (leb (2 * members) entries) (omega arith) (second .0)))
+
+-- a session that is new, and one with a file that was taken, is sound
+pub sound-new : Sound newSession
+sound-new = record { survey = λ h. absurd (omega arith); vehicle = λ h. absurd (omega arith) }
+
+pub taken-survey-allowed : (bytes : List ℕ) → readSurvey bytes .answer ≡ Taken → AllowedSurvey (readSurvey bytes .survey)
+taken-survey-allowed bytes e = record { count = taken-count bytes e; members = λ i h. taken-members bytes e i _ h }
+
+pub sound-survey : (s : Session) (bytes : List ℕ) → Sound s → readSurvey bytes .answer ≡ Taken → Sound (record { survey = readSurvey bytes .survey; vehicle = s .vehicle })
+sound-survey s bytes h e = record { survey = λ l. taken-survey-allowed bytes e; vehicle = h .vehicle }
+
+pub sound-vehicle : (s : Session) (bytes : List ℕ) → Sound s → readVehicle bytes .answer ≡ Taken → Sound (record { survey = s .survey; vehicle = readVehicle bytes .vehicle })
+sound-vehicle s bytes h e = record { survey = h .survey; vehicle = λ l. taken-sound bytes e }
+
+-- a survey has at most as many members as a file can
+pub few-members : (s : Session) → Sound s → s .survey .count ≤ MOST-MEMBERS
+few-members s h = elim (decLe (s .survey .count) 0) [ yes l ↦ omega arith | no l ↦ h .survey (omega arith) .count .1 ]
+
+-- a load by its answer: what was read is stored, or nothing is
+pub survey-stored : (s : Session) (bytes : List ℕ) (r : SurveyRead) → r ≡ readSurvey bytes → r .answer ≡ Taken →
+    loaded (record { session = record { survey = r .survey; vehicle = s .vehicle }; answer = r .answer }) ≡ loadSurvey s bytes
+unfolding loadSurvey
+survey-stored s bytes r e t = rw (e, rw e at t)
+
+pub survey-kept : (s : Session) (bytes : List ℕ) (r : SurveyRead) (f : Refusal) → r ≡ readSurvey bytes → r .answer ≡ Refused f →
+    loaded (record { session = s; answer = r .answer }) ≡ loadSurvey s bytes
+unfolding loadSurvey
+survey-kept s bytes r f e t = rw (e, rw e at t)
+
+pub vehicle-stored : (s : Session) (bytes : List ℕ) (r : VehicleRead) → r ≡ readVehicle bytes → r .answer ≡ Taken →
+    loaded (record { session = record { survey = s .survey; vehicle = r .vehicle }; answer = r .answer }) ≡ loadVehicle s bytes
+unfolding loadVehicle
+vehicle-stored s bytes r e t = rw (e, rw e at t)
+
+pub vehicle-kept : (s : Session) (bytes : List ℕ) (r : VehicleRead) (f : Refusal) → r ≡ readVehicle bytes → r .answer ≡ Refused f →
+    loaded (record { session = s; answer = r .answer }) ≡ loadVehicle s bytes
+unfolding loadVehicle
+vehicle-kept s bytes r f e t = rw (e, rw e at t)
+
+-- the judgement on two files, by the answers of the loads
+module _ (survey vehicle : List ℕ) where
+  pub first-refused : (o : AfterLoad) (f : Refusal) → loaded o ≡ loadSurvey newSession survey → o .answer ≡ Refused f →
+      refusedBy f ≡ judgeFiles survey vehicle .answer
+  unfolding judgeFiles
+  first-refused o f e t = rw (← e, t)
+
+  pub second-refused : (o p : AfterLoad) (f : Refusal) → loaded o ≡ loadSurvey newSession survey → o .answer ≡ Taken →
+      loaded p ≡ loadVehicle (o .session) vehicle →
+      p .answer ≡ Refused f →
+      refusedBy f ≡ judgeFiles survey vehicle .answer
+  unfolding judgeFiles
+  second-refused o p f e t h u = rw (← e, t, ← h, u)
+
+  pub both-taken : (o p : AfterLoad) (r : AfterJudge) → loaded o ≡ loadSurvey newSession survey → o .answer ≡ Taken →
+      loaded p ≡ loadVehicle (o .session) vehicle →
+      p .answer ≡ Taken →
+      judged r ≡ judge (p .session) (replicate (2 * MOST-MEMBERS) 0) →
+      judgeAnswer (r .answer) ≡ judgeFiles survey vehicle .answer
+  unfolding judgeFiles
+  both-taken o p r e t h u j = rw (← e, t, ← h, u, ← j)
