@@ -1,0 +1,253 @@
+-- The three demands hold: each part from the law of the crate whose matter it is, and from the cases of the calls' definitions.
+-- Assumes nothing.
+use Prim.Native.Nat.{ℕ, _+_, _-_, _*_, _≤_, _<_}
+use mathlib.Core.Path.{_≡_, refl, sym, ap, _∙_}
+use mathlib.Core.Bool.{Bool, true, false, not}
+use mathlib.Core.List.{List, [], _∷_}
+use mathlib.Core.Logic.{_⊎_, inl, inr, ⊎-elim}
+use native.Mathlib.Nat.{add-sub-cancel}
+use native.Mathlib.Omega.{arith}
+use lib.Dec.{eqb, leb}
+use lib.ListN.{length}
+use borrow.Author.Tests.{ne-eqb, eqb-false, le-leb}
+use Rattle.section.specs.Choose.{choose}
+use Rattle.section.specs.Fraction.{whole, _⊕_, _⊑_, _⊏_}
+use Rattle.rating.specs.Compare.{SamePlaces, Heavier}
+use Rattle.rating.specs.Format.{AllowedMember, AllowedVehicle, In, _‥_}
+use Rattle.rating.specs.Judgement.{ratingOf, judgementOf, written}
+use Rattle.rating.specs.Surveyed.{AllowedSurvey, AllowedMembers, memberAt}
+use Rattle.influence.specs.Influence.{weight, behind}
+use Rattle.influence.proofs.Greatest.{greatest-given}
+use Rattle.rating.specs.VehicleLoad.{vehicleLoadOn}
+use Rattle.rating.specs.declared.record.Member.{Member}
+use Rattle.rating.specs.declared.record.Vehicle.{Vehicle}
+use Rattle.rating.proofs.Falling.{permitted-load-exact}
+use Rattle.rating.proofs.Judged.{vehicle-load-rises, permitted-falls, member-stays-refused, figure-falls, bridge-stays-refused, same-places}
+use Rattle.rating.proofs.Lines.{line-sized, vehicle-load-covers, vehicle-load-rounded-up}
+use Rattle.rating.proofs.Places.{figure-least, governing-first}
+use Rattle.rating.proofs.Surveys.{members-counted, members-allowed}
+use Rattle.files.specs.Allowed.{AllowedSurveyFile, AllowedVehicleFile, SurveyRefusal, VehicleRefusal}
+use Rattle.files.specs.Reading.{_unless_, isIn}
+use Rattle.files.specs.SurveyFile.{readSurvey, surveyOf}
+use Rattle.files.specs.VehicleFile.{readVehicle, vehicleOf}
+use Rattle.files.specs.declared.Reading.{Reading}
+use Rattle.files.specs.declared.Reading.the-variants.{Taken, Refused}
+use Rattle.files.specs.declared.Refusal.{Refusal}
+use Rattle.files.proofs.Tests.{first-is, rows-is, range-in}
+use Rattle.files.proofs.Surveys as surveys
+use Rattle.files.proofs.Vehicles as vehicles
+use Rattle.session.specs.Answers.{Outcome, Answer, Values, RefusedAt, refusedBy, ratingValues, judgementValues}
+use Rattle.session.specs.Calls.{newSession, members, stateFault, rateFault, judgeFault, loadSurvey, loadVehicle, storedSurvey, storedVehicle, unlessFault, rate, judge, judgeList, judgeFiles}
+use Rattle.session.specs.Demands.{FromState, Demand1, Demand2, Demand3, Answers, Governs, Holds, Covers, Falls}
+use Rattle.session.specs.declared.Session.{Session}
+use Rattle.session.proofs.State.{taken-survey-allowed}
+
+-- two answers are never both
+abbrev isRefusal : Answer → Bool
+isRefusal (Values values) = false
+isRefusal (RefusedAt n p) = true
+
+never-both : {X : Type 0} (values : List ℕ) (n p : ℕ) → Values values ≡ RefusedAt n p → X
+never-both values n p e = absurd (mathlib.Core.Bool.false≢true (ap isRefusal e))
+
+reading-case : (a : Reading) (P : Reading → Type 0) → (a ≡ Taken → P Taken) → ((r : Refusal) → a ≡ Refused r → P (Refused r)) → P a
+reading-case Taken P t f = t refl
+reading-case (Refused r) P t f = f r refl
+
+-- a load that takes its file, by its answer
+module _ (s : Session) (bytes : List ℕ) where
+  survey-read : loadSurvey s bytes .answer ≡ Values [] → readSurvey bytes .answer ≡ Taken
+  unfolding loadSurvey
+  survey-read =
+      reading-case (readSurvey bytes .answer) (λ a. storedSurvey s a (readSurvey bytes .survey) .answer ≡ Values [] → a ≡ Taken) (λ e h. refl)
+      (λ r e h. never-both [] (r .number) (r .place) (sym h))
+
+  vehicle-read : loadVehicle s bytes .answer ≡ Values [] → readVehicle bytes .answer ≡ Taken
+  unfolding loadVehicle
+  vehicle-read =
+      reading-case (readVehicle bytes .answer) (λ a. storedVehicle s a (readVehicle bytes .vehicle) .answer ≡ Values [] → a ≡ Taken) (λ e h. refl)
+      (λ r e h. never-both [] (r .number) (r .place) (sym h))
+
+  survey-load : readSurvey bytes .answer ≡ Taken → loadSurvey s bytes ≡ record { session = record { survey = surveyOf bytes; vehicle = s .vehicle }; answer = Values [] }
+  unfolding loadSurvey
+  survey-load e = rw (e, surveys.taken-survey bytes e)
+
+  vehicle-load : readVehicle bytes .answer ≡ Taken → loadVehicle s bytes ≡ record { session = record { survey = s .survey; vehicle = vehicleOf bytes }; answer = Values [] }
+  unfolding loadVehicle
+  vehicle-load e = rw (e, vehicles.taken-vehicle bytes e)
+
+-- a fault is an answer from the state, or there is none
+fault-answer : (numbers : ℕ → Type 0) (n : ℕ) (values : List ℕ) → (n ≡ 0) ⊎ numbers n → FromState numbers (unlessFault n values)
+fault-answer numbers n values h = go (eqb n 0) refl h
+  where
+    go : (b : Bool) → eqb n 0 ≡ b → (n ≡ 0) ⊎ numbers n → FromState numbers (choose b (Values values) (RefusedAt n 0))
+    go true e h = inl (values, refl)
+    go false e (inl z) = absurd (eqb-false n 0 e z)
+    go false e (inr h) = inr (n, h, refl)
+
+-- the faults of the state, and one more test
+state-number : (numbers : ℕ → Type 0) → numbers 11 → numbers 12 → (members axles : ℕ) → (stateFault members axles ≡ 0) ⊎ numbers (stateFault members axles)
+unfolding stateFault
+state-number numbers h11 h12 members axles =
+    first-is (λ n. (n ≡ 0) ⊎ numbers n) 11 (not (eqb members 0)) (12 unless not (eqb axles 0) ∷ []) (inr h11)
+    (first-is (λ n. (n ≡ 0) ⊎ numbers n) 12 (not (eqb axles 0)) [] (inr h12) (inl refl))
+
+last-number : (numbers : ℕ → Type 0) (n : ℕ) (test : Bool) → numbers n → (n unless test ≡ 0) ⊎ numbers (n unless test)
+last-number numbers n true h = inl refl
+last-number numbers n false h = inr h
+
+rate-number : (members axles place : ℕ) → (rateFault members axles place ≡ 0) ⊎ In (11 ‥ 13) (rateFault members axles place)
+unfolding rateFault
+rate-number members axles place =
+    rows-is (λ n. (n ≡ 0) ⊎ In (11 ‥ 13) n) (stateFault members axles) (13 unless isIn (1 ‥ members) place) (state-number (In (11 ‥ 13)) (omega arith) (omega arith) members axles)
+    (last-number (In (11 ‥ 13)) 13 (isIn (1 ‥ members) place) (omega arith))
+
+judge-number : (members axles entries : ℕ) → (judgeFault members axles entries ≡ 0) ⊎ ((In (11 ‥ 12) (judgeFault members axles entries)) ⊎ (judgeFault members axles entries ≡ 14))
+unfolding judgeFault
+judge-number members axles entries =
+    rows-is (λ n. (n ≡ 0) ⊎ ((In (11 ‥ 12) n) ⊎ (n ≡ 14))) (stateFault members axles) (14 unless leb (2 * members) entries)
+    (state-number (λ n. (In (11 ‥ 12) n) ⊎ (n ≡ 14)) (inl (omega arith)) (inl (omega arith)) members axles)
+    (last-number (λ n. (In (11 ‥ 12) n) ⊎ (n ≡ 14)) 14 (leb (2 * members) entries) (inr refl))
+
+list-untouched : (s : Session) (list : List ℕ) (n p : ℕ) → judge s list .answer ≡ RefusedAt n p → judgeList s list ≡ list
+unfolding judge judgeList
+list-untouched s list n p = go (eqb (judgeFault (s .survey .count) (s .vehicle .axles) (length list)) 0)
+  where
+    go : (b : Bool) → choose b (Values (judgementValues (judgementOf (members s) (s .vehicle)))) (RefusedAt (judgeFault (s .survey .count) (s .vehicle .axles) (length list)) 0) ≡ RefusedAt n p →
+        choose b (written (s .vehicle) (members s) list) list ≡ list
+    go true e = never-both _ n p e
+    go false e = refl
+
+pub demand1 : Demand1
+unfolding loadSurvey loadVehicle rate judge
+demand1 =
+    record {
+      survey-answered = λ s bytes.
+          reading-case (readSurvey bytes .answer)
+          (λ a. (storedSurvey s a (readSurvey bytes .survey) .answer ≡ Values []) ⊎ ((r : Refusal) × (storedSurvey s a (readSurvey bytes .survey) .answer ≡ refusedBy r) × SurveyRefusal bytes r))
+          (λ e. inl refl)
+          (λ r e. inr (r, refl, surveys.refused-number bytes r e));
+      vehicle-answered = λ s bytes.
+          reading-case (readVehicle bytes .answer)
+          (λ a. (storedVehicle s a (readVehicle bytes .vehicle) .answer ≡ Values []) ⊎ ((r : Refusal) × (storedVehicle s a (readVehicle bytes .vehicle) .answer ≡ refusedBy r) × VehicleRefusal bytes r))
+          (λ e. inl refl)
+          (λ r e. inr (r, refl, vehicles.refused-number bytes r e));
+      rate-answered = λ s place. fault-answer (In (11 ‥ 13)) _ _ (rate-number (s .survey .count) (s .vehicle .axles) place);
+      judge-answered = λ s list. fault-answer (λ n. (In (11 ‥ 12) n) ⊎ (n ≡ 14)) _ _ (judge-number (s .survey .count) (s .vehicle .axles) (length list));
+      survey-kept = λ s bytes n p.
+          reading-case (readSurvey bytes .answer) (λ a. storedSurvey s a (readSurvey bytes .survey) .answer ≡ RefusedAt n p → storedSurvey s a (readSurvey bytes .survey) .session ≡ s)
+          (λ e h. never-both [] n p h)
+          (λ r e h. refl);
+      vehicle-kept = λ s bytes n p.
+          reading-case (readVehicle bytes .answer) (λ a. storedVehicle s a (readVehicle bytes .vehicle) .answer ≡ RefusedAt n p → storedVehicle s a (readVehicle bytes .vehicle) .session ≡ s)
+          (λ e h. never-both [] n p h)
+          (λ r e h. refl);
+      rate-keeps = λ s place. refl;
+      judge-keeps = λ s list. refl;
+      list-kept = list-untouched;
+    }
+
+-- no fault where both files are loaded and the place, or the list, is right
+rate-ready : (members axles place : ℕ) → 0 < members → 0 < axles → In (1 ‥ members) place → rateFault members axles place ≡ 0
+unfolding rateFault stateFault
+rate-ready members axles place hm ha hp =
+    rw (ne-eqb members 0 (omega arith), ne-eqb axles 0 (omega arith), range-in (1 ‥ members) place hp)
+
+judge-ready : (members axles entries : ℕ) → 0 < members → 0 < axles → 2 * members ≤ entries → judgeFault members axles entries ≡ 0
+unfolding judgeFault stateFault
+judge-ready members axles entries hm ha he =
+    rw (ne-eqb members 0 (omega arith), ne-eqb axles 0 (omega arith), le-leb (2 * members) entries he)
+
+all-answers : (s : Session) → 0 < s .survey .count → 0 < s .vehicle .axles → Answers s
+unfolding rate judge judgeList
+all-answers s hm ha =
+    record {
+      rated = λ i h.
+          rw (rate-ready (s .survey .count) (s .vehicle .axles) (i + 1) hm ha (omega arith), add-sub-cancel i 1);
+      judged = λ list h. rw (judge-ready (s .survey .count) (s .vehicle .axles) (length list) hm ha h);
+      listed = λ list h. rw (judge-ready (s .survey .count) (s .vehicle .axles) (length list) hm ha h);
+    }
+
+files-answer : (survey vehicle : List ℕ) → AllowedSurveyFile survey → AllowedVehicleFile vehicle →
+    judgeFiles survey vehicle .answer ≡ Values (judgementValues (judgementOf (members (record { survey = surveyOf survey; vehicle = vehicleOf vehicle })) (vehicleOf vehicle)))
+unfolding judgeFiles judge
+files-answer survey vehicle a b =
+    let e = surveys.allowed-taken survey a in
+    let f = vehicles.allowed-taken vehicle b in
+    rw (survey-load newSession survey e, vehicle-load (record { survey = surveyOf survey; vehicle = newSession .vehicle }) vehicle f, judge-ready (surveyOf survey .count) (vehicleOf vehicle .axles) 128 (omega (arith, a .count)) (omega (arith, b .vehicle .axles)) (omega (arith, a .count)))
+
+pub demand2 : Demand2
+demand2 =
+    record {
+      survey-taken = λ s bytes. (
+        λ h. surveys.taken-allowed bytes (survey-read s bytes h),
+        λ a. ap (λ (o : Outcome). o .answer) (survey-load s bytes (surveys.allowed-taken bytes a)),
+      );
+      vehicle-taken = λ s bytes. (
+        λ h. vehicles.taken-allowed bytes (vehicle-read s bytes h),
+        λ a. ap (λ (o : Outcome). o .answer) (vehicle-load s bytes (vehicles.allowed-taken bytes a)),
+      );
+      survey-held = λ s bytes a. ap (λ (o : Outcome). o .session) (survey-load s bytes (surveys.allowed-taken bytes a));
+      vehicle-held = λ s bytes a. ap (λ (o : Outcome). o .session) (vehicle-load s bytes (vehicles.allowed-taken bytes a));
+      answers = all-answers;
+      governs = λ ms v h.
+          let first = governing-first v ms h in
+          record {
+            least = figure-least v ms;
+            within = (first .low, first .high);
+            has = first .gives;
+            first = first .before;
+          };
+      files-judged = files-answer;
+    }
+
+-- what is held was taken, so it is allowed
+module _ {s : Session} {survey vehicle : List ℕ} (h : Holds s survey vehicle) where
+  held-survey : AllowedSurvey (s .survey)
+  held-survey =
+      let e = survey-read newSession survey (h .survey-taken) in
+      rw (h .survey-held, survey-load newSession survey e, ← (surveys.taken-survey survey e)) (taken-survey-allowed survey e)
+
+  held-vehicle : AllowedVehicle (s .vehicle)
+  held-vehicle =
+      let e = vehicle-read newSession vehicle (h .vehicle-taken) in
+      rw (h .vehicle-held, vehicle-load newSession vehicle e, ← (vehicles.taken-vehicle vehicle e)) (vehicles.taken-sound vehicle e)
+
+  held-members : AllowedMembers (members s)
+  held-members = members-allowed held-survey
+
+  held-answers : Answers s
+  held-answers = all-answers s (held-survey .count .0) (held-vehicle .axles .0)
+
+-- the greatest is what some position gives, so a load less than one unit above it is less than one unit above that position's
+covered : {m : Member} (a : AllowedMember m) (v : Vehicle) → Covers m v (vehicleLoadOn m v)
+covered {m} a v =
+    record {
+      one-way = λ u. vehicle-load-covers a v u .0;
+      other-way = λ u. vehicle-load-covers a v u .1;
+      near =
+          ⊎-elim (λ g. inl (g .0, rw (g .1) at (vehicle-load-rounded-up a v .near))) (λ g. inr (g .0, rw (g .1) at (vehicle-load-rounded-up a v .near)))
+          (greatest-given (weight (v .weights)) (behind (v .distances)) (v .axles) (line-sized a .triangle));
+    }
+
+falls : (s s' : Session) (survey vehicle survey' vehicle' : List ℕ) → Holds s survey vehicle → Holds s' survey' vehicle' → SamePlaces (members s) (members s') → Heavier (s .vehicle) (s' .vehicle) → Falls s s'
+falls s s' survey vehicle survey' vehicle' h h' p v =
+    let a = held-members h in
+    let a' = held-members h' in
+    let more : (i : ℕ) → i < length (members s) → i < length (members s') = λ i l. omega (arith, p .longer) in
+    record {
+      permitted = λ i l. permitted-falls v (a i l) (a' i (more i l)) (p .worn i l);
+      vehicle-load = λ i l. vehicle-load-rises v (a i l) (a' i (more i l)) (p .worn i l);
+      figure = figure-falls v a a' (same-places p) (rw (members-counted (held-survey h)) (held-survey h .count .0));
+      member-verdict = λ i l. member-stays-refused v (a i l) (a' i (more i l)) (p .worn i l);
+      bridge-verdict = bridge-stays-refused v a a' (same-places p);
+    }
+
+pub demand3 : Demand3
+demand3 =
+    record {
+      said-of = λ s survey vehicle h. held-answers h;
+      permitted-load = λ s survey vehicle h i l. permitted-load-exact (held-members h i l) (s .vehicle .class) (s .vehicle .track);
+      vehicle-load = λ s survey vehicle h i l. covered (held-members h i l) (s .vehicle);
+      falling = falls;
+    }
