@@ -7,10 +7,11 @@ use mathlib.Core.Bool.{Bool, true, false}
 use native.Mathlib.Nat.{mul-comm, mul-pos, mul-le-mul-right}
 use native.Mathlib.Omega.{arith}
 use lib.Dec.{leb}
-use Rattle.section.specs.Fraction.{Fraction, Sound, over, whole, _·_, _⊑_, _≐_, pickFraction}
+use Rattle.section.specs.Choose.{choose}
+use Rattle.section.specs.Fraction.{Fraction, Sound, over, whole, _·_, _⊑_, _≐_}
 use Rattle.section.proofs.Order.{⊑-refl, ·-mono, ÷-mono, ·-sound, ÷-sound}
 use Rattle.influence.specs.Influence.{Triangle, height, axleSum, perMetre, gives}
-use Rattle.influence.specs.Scaled.{pick, scaledHeight, scaledSum}
+use Rattle.influence.specs.Scaled.{scaledHeight, scaledSum}
 use Rattle.influence.proofs.Folds.{sum-over, sum-sound}
 
 -- the triangle as it is met from the other end
@@ -38,7 +39,7 @@ pub height-over : (U P s : ℕ) → height U P s ≐ over (scaledHeight U P s) (
 unfolding height scaledHeight over
 height-over U P s = go (leb s P)
   where
-    go : (t : Bool) → pickFraction t (over s P) (over (U - s) (U - P)) ≐ over (pick t (s * (U - P)) ((U - s) * P)) (P * (U - P))
+    go : (t : Bool) → choose t (over s P) (over (U - s) (U - P)) ≐ over (choose t (s * (U - P)) ((U - s) * P)) (P * (U - P))
     go true = record { out = omega arith }
     go false = record { out = omega arith }
 
@@ -56,7 +57,7 @@ height-sound : {U P : ℕ} (s : ℕ) → Triangle U P → Sound (height U P s)
 unfolding height over
 height-sound {U} {P} s t = go (leb s P)
   where
-    go : (c : Bool) → Sound (pickFraction c (over s P) (over (U - s) (U - P)))
+    go : (c : Bool) → Sound (choose c (over s P) (over (U - s) (U - P)))
     go true = record { above-0 = t .after-start }
     go false = record { above-0 = omega arith }
 

@@ -19,9 +19,6 @@ use Rattle.influence.proofs.Folds.{total-cap, of-top}
 use Rattle.influence.proofs.Apex.{rising-side, falling-side}
 use Rattle.influence.proofs.Scaled.{mirrored}
 
-pub product-fits : {x y : ℕ} (a b : ℕ) → x ≤ a → y ≤ b → a * b < 2 ^ 64 → Fits w64 (x * y)
-product-fits a b p q h = record { fits = lt-of-le-of-lt (mul-le-mul p q) h }
-
 -- the distances of the first i axles, in half centimetres
 abbrev pub passed : List ℕ → ℕ → ℕ
 passed ds i = total (λ j. 2 * getD ds j 0) i

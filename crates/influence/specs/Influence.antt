@@ -5,7 +5,8 @@ use Prim.Native.Nat.{ℕ, zero, suc, _+_, _-_, _*_, _<_}
 use mathlib.Core.List.{List}
 use lib.ListN.{getD}
 use lib.Dec.{leb}
-use Rattle.section.specs.Fraction.{Fraction, whole, over, _·_, _÷_, _⊕_, greater, pickFraction, ceiling}
+use Rattle.section.specs.Choose.{choose}
+use Rattle.section.specs.Fraction.{Fraction, whole, over, _·_, _÷_, _⊕_, greater, ceiling}
 
 -- f 0 + f 1 + .. + f (n - 1), of fractions and of whole numbers
 unfoldable pub sum : (ℕ → Fraction) → ℕ → Fraction
@@ -28,7 +29,7 @@ pub record Triangle (U P : ℕ) : Type 0 where
 
 -- "The triangle has height 1 over its apex and 0 at both ends." Past the far end U - s is 0: "an axle off the base counts 0".
 unfoldable pub height : (U P s : ℕ) → Fraction
-height U P s = pickFraction (leb s P) (over s P) (over (U - s) (U - P))
+height U P s = choose (leb s P) (over s P) (over (U - s) (U - P))
 
 -- "sum of weight × height", with the front axle at u. An axle that is not on the base yet has the place u - b i = 0, where the
 -- height is 0. So a front axle before the end would give what u = 0 gives, which is 0.

@@ -3,6 +3,7 @@
 use Prim.Native.Nat.{ℕ, zero, suc, _+_, _-_, _*_, max}
 use mathlib.Core.Bool.{Bool, true, false}
 use lib.Dec.{leb}
+use Rattle.section.specs.Choose.{choose}
 use Rattle.influence.specs.Influence.{total}
 
 -- the greatest of f 0, .., f (n - 1), 0 where n is 0
@@ -10,12 +11,8 @@ unfoldable pub top : (ℕ → ℕ) → ℕ → ℕ
 top f zero = 0
 top f (suc n) = max (top f n) (f n)
 
-abbrev pub pick : Bool → ℕ → ℕ → ℕ
-pick true a b = a
-pick false a b = b
-
 unfoldable pub scaledHeight : (U P s : ℕ) → ℕ
-scaledHeight U P s = pick (leb s P) (s * (U - P)) ((U - s) * P)
+scaledHeight U P s = choose (leb s P) (s * (U - P)) ((U - s) * P)
 
 unfoldable pub scaledSum : (U P : ℕ) (w b : ℕ → ℕ) (n u : ℕ) → ℕ
 scaledSum U P w b n u = total (λ i. w i * scaledHeight U P (u - b i)) n

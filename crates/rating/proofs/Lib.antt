@@ -1,9 +1,9 @@
 pub mod Allowed
 pub mod Cases
+pub mod Divisors
 pub mod Exact
 pub mod EachKind
 pub mod Falling
-pub mod Products
 pub mod Quantities
 pub mod Whole
 pub mod Lines

@@ -6,6 +6,7 @@ use mathlib.Core.Bool.{Bool, true, false, not, _&&_, _||_}
 use mathlib.Core.List.{List, [], _∷_, _++_}
 use lib.ListN.{getD}
 use lib.Dec.{eqb, leb}
+use Rattle.section.specs.Choose.{choose}
 use Rattle.rating.specs.Fields.{KIND, SPECIES, SPAN, SPACING, DISTANCE, HEIGHT, CODE, S3, S4, S5, S6, MU-A, MU-B, FIELDS, MOST-AXLES, field}
 use Rattle.rating.specs.declared.record.Member.{Member}
 use Rattle.rating.specs.declared.record.Vehicle.{Vehicle}
@@ -21,10 +22,6 @@ a ‥ b = record { low = a; high = b }
 
 abbrev pub In : Range → ℕ → Type 0
 In r n = (r .low ≤ n) × (n ≤ r .high)
-
-abbrev pub choose {ℓ} : {X : Type ℓ} → Bool → X → X → X
-choose true a b = a
-choose false a b = b
 
 -- "Section code and its fields s1 to s6", each with its range
 unfoldable pub sectionRanges : ℕ → List Range

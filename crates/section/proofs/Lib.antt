@@ -1,6 +1,7 @@
 pub mod Terms
 pub mod Choices
 pub mod Order
+pub mod Products
 pub mod Quotient
 pub mod Rounding
 pub mod Sections

@@ -8,7 +8,8 @@ use native.Mathlib.Nat.{mul-le-mul, mul-le-mul-right, mul-pos, le-of-mul-le-mul-
 use native.Mathlib.Omega.{arith}
 use lib.Dec.{leb}
 use borrow.Author.Tests.{leb-true, leb-false}
-use Rattle.section.specs.Fraction.{Fraction, Sound, pickFraction, over, whole, tenths, hundredths, square, _·_, _÷_, _⊕_, _⊖_, _⊑_, _≐_, lesser, greater}
+use Rattle.section.specs.Choose.{choose}
+use Rattle.section.specs.Fraction.{Fraction, Sound, over, whole, tenths, hundredths, square, _·_, _÷_, _⊕_, _⊖_, _⊑_, _≐_, lesser, greater}
 
 pub ⊑-refl : {a : Fraction} → a ⊑ a
 ⊑-refl = record { out = le-refl _ }
@@ -113,7 +114,7 @@ pub of-lesser : (P : Fraction → Type 0) {a b : Fraction} → P a → P b → P
 unfolding lesser
 of-lesser P {a} {b} p q = go (leb (a .num * b .den) (b .num * a .den))
   where
-    go : (t : Bool) → P (pickFraction t a b)
+    go : (t : Bool) → P (choose t a b)
     go true = p
     go false = q
 
@@ -121,7 +122,7 @@ pub of-greater : (P : Fraction → Type 0) {a b : Fraction} → P a → P b → 
 unfolding greater
 of-greater P {a} {b} p q = go (leb (b .num * a .den) (a .num * b .den))
   where
-    go : (t : Bool) → P (pickFraction t a b)
+    go : (t : Bool) → P (choose t a b)
     go true = p
     go false = q
 
@@ -130,7 +131,7 @@ pub lesser-left : (a b : Fraction) → lesser a b ⊑ a
 unfolding lesser
 lesser-left a b = go (leb (a .num * b .den) (b .num * a .den)) refl
   where
-    go : (t : Bool) → leb (a .num * b .den) (b .num * a .den) ≡ t → pickFraction t a b ⊑ a
+    go : (t : Bool) → leb (a .num * b .den) (b .num * a .den) ≡ t → choose t a b ⊑ a
     go true e = ⊑-refl
     go false e = record { out = le-of-lt (leb-false _ _ e) }
 
@@ -138,7 +139,7 @@ pub lesser-right : (a b : Fraction) → lesser a b ⊑ b
 unfolding lesser
 lesser-right a b = go (leb (a .num * b .den) (b .num * a .den)) refl
   where
-    go : (t : Bool) → leb (a .num * b .den) (b .num * a .den) ≡ t → pickFraction t a b ⊑ b
+    go : (t : Bool) → leb (a .num * b .den) (b .num * a .den) ≡ t → choose t a b ⊑ b
     go true e = record { out = leb-true _ _ e }
     go false e = ⊑-refl
 
@@ -151,7 +152,7 @@ pub greater-left : (a b : Fraction) → a ⊑ greater a b
 unfolding greater
 greater-left a b = go (leb (b .num * a .den) (a .num * b .den)) refl
   where
-    go : (t : Bool) → leb (b .num * a .den) (a .num * b .den) ≡ t → a ⊑ pickFraction t a b
+    go : (t : Bool) → leb (b .num * a .den) (a .num * b .den) ≡ t → a ⊑ choose t a b
     go true e = ⊑-refl
     go false e = record { out = le-of-lt (leb-false _ _ e) }
 
@@ -159,7 +160,7 @@ pub greater-right : (a b : Fraction) → b ⊑ greater a b
 unfolding greater
 greater-right a b = go (leb (b .num * a .den) (a .num * b .den)) refl
   where
-    go : (t : Bool) → leb (b .num * a .den) (a .num * b .den) ≡ t → b ⊑ pickFraction t a b
+    go : (t : Bool) → leb (b .num * a .den) (a .num * b .den) ≡ t → b ⊑ choose t a b
     go true e = record { out = leb-true _ _ e }
     go false e = ⊑-refl
 
@@ -175,7 +176,7 @@ lesser-scaled k x y {a} {b} s t p q = go (leb (a .num * b .den) (b .num * a .den
         (omega (arith, ap (λ (z : ℕ). z * b .den) (p .out), ap (λ (z : ℕ). z * a .den) (q .out), mul-le-mul-right k (h .out)))
         d
 
-    go : (d : Bool) → leb (a .num * b .den) (b .num * a .den) ≡ d → over (min x y) k ≐ pickFraction d a b
+    go : (d : Bool) → leb (a .num * b .den) (b .num * a .den) ≡ d → over (min x y) k ≐ choose d a b
     go true e =
         rw (min-eq-left (ordered x y (mul-pos (s .above-0) (t .above-0)) p q (record { out = leb-true _ _ e }))) p
     go false e =

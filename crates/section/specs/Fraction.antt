@@ -4,6 +4,7 @@ use Prim.Native.Nat.{ℕ, _+_, _-_, _*_, _/_, _≤_, _<_}
 use mathlib.Core.Path.{_≡_}
 use mathlib.Core.Bool.{Bool, true, false}
 use lib.Dec.{leb}
+use Rattle.section.specs.Choose.{choose}
 
 infixl 70 _·_ _÷_
 infixl 60 _⊕_ _⊖_
@@ -56,16 +57,12 @@ pub record _⊏_ (a b : Fraction) : Type 0 where
 pub record _≐_ (a b : Fraction) : Type 0 where
   pub out : a .num * b .den ≡ b .num * a .den
 
-abbrev pub pickFraction : Bool → Fraction → Fraction → Fraction
-pickFraction true a b = a
-pickFraction false a b = b
-
 -- the lesser and the greater of two, the first where they are equal
 unfoldable pub lesser : Fraction → Fraction → Fraction
-lesser a b = pickFraction (leb (a .num * b .den) (b .num * a .den)) a b
+lesser a b = choose (leb (a .num * b .den) (b .num * a .den)) a b
 
 unfoldable pub greater : Fraction → Fraction → Fraction
-greater a b = pickFraction (leb (b .num * a .den) (a .num * b .den)) a b
+greater a b = choose (leb (b .num * a .den) (a .num * b .den)) a b
 
 -- rounded down, and rounded up, to a whole number
 unfoldable pub floor : Fraction → ℕ

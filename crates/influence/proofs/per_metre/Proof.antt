@@ -1,12 +1,14 @@
 -- `influence::per_metre` meets its contract: 200 × (sum / scale) / (base / 2) is 400 × sum over scale × base.
 -- Assumes nothing.
+use Prim.Native.Nat.{_*_}
 use mathlib.Core.Path.{ap, _∙_}
 use native.Mathlib.Nat.{mul-pos, mul-le-mul}
 use native.Mathlib.Omega.{arith}
 use borrow.Author.Needs.{needs}
 use Rattle.section.specs.Fraction.{ceiling}
 use Rattle.influence.proofs.Scaled.{divisor-above-0}
-use Rattle.influence.proofs.Steps.{product-fits, divisor-cap, load-over}
+use Rattle.section.proofs.Products.{product-fits, product-cap}
+use Rattle.influence.proofs.Steps.{divisor-cap, load-over}
 use Rattle.influence.proofs.per_metre.Statement.{statement}
 use Rattle.influence.proofs.per_metre.Tie as tie
 
@@ -14,15 +16,14 @@ sub-scale : tie.Need-sub-scale
 sub-scale c = search needs
 
 mul-scale : tie.Need-mul-scale
-mul-scale c = product-fits 10000 10000 (omega arith) (omega arith) (omega arith)
+mul-scale c = product-fits 10000 10000 tt (omega arith) (omega arith)
 
 mul-round-up : tie.Need-mul-round-up
 mul-round-up c = search needs
 
 mul-round-up-2 : tie.Need-mul-round-up-2
 mul-round-up-2 c =
-    product-fits 100000000 10000 (mul-le-mul {n₂ = 10000} {m₂ = 10000} (omega arith) (omega arith)) (omega arith)
-    (omega arith)
+    product-fits (10000 * 10000) 10000 tt (product-cap 10000 10000 (omega arith) (omega arith)) (omega arith)
 
 round-up-requires : tie.Need-round-up-requires
 round-up-requires c κs =

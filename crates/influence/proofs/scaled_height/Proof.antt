@@ -5,7 +5,7 @@ use mathlib.Core.Path.{sym}
 use native.Mathlib.Nat.{le-of-lt}
 use native.Mathlib.Omega.{arith}
 use Rattle.influence.proofs.Apex.{rising-side, falling-side}
-use Rattle.influence.proofs.Steps.{product-fits}
+use Rattle.section.proofs.Products.{product-fits}
 use Rattle.influence.proofs.scaled_height.Statement.{statement}
 use Rattle.influence.proofs.scaled_height.Tie as tie
 
@@ -13,13 +13,13 @@ sub-result : tie.Need-sub-result
 sub-result c = search needs
 
 mul-result : tie.Need-mul-result
-mul-result c = product-fits 10000 10000 (omega arith) (omega arith) (omega arith)
+mul-result c = product-fits 10000 10000 tt (omega arith) (omega arith)
 
 beyond-requires : tie.Need-beyond-requires
 beyond-requires c κs = search needs
 
 mul-result-2 : tie.Need-mul-result-2
-mul-result-2 c = product-fits 10000 10000 (omega arith) (omega arith) (omega arith)
+mul-result-2 c = product-fits 10000 10000 tt (omega arith) (omega arith)
 
 returns : tie.Need-returns
 returns c = sym (rising-side _ _ _ (c .before .before .before .if1 .taken))

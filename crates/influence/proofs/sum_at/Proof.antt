@@ -7,7 +7,8 @@ use native.Mathlib.Omega.{arith}
 use borrow.Author.Needs.{needs}
 use Rattle.influence.specs.Influence.{total, weight, behind}
 use Rattle.influence.specs.Scaled.{scaledSum}
-use Rattle.influence.proofs.Steps.{product-fits, passed, passed-next, behind-passed, sum-next, height-cap, sum-cap}
+use Rattle.section.proofs.Products.{product-fits}
+use Rattle.influence.proofs.Steps.{passed, passed-next, behind-passed, sum-next, height-cap, sum-cap}
 use Rattle.influence.proofs.sum_at.Statement.{statement}
 use Rattle.influence.proofs.sum_at.Tie as tie
 
@@ -38,10 +39,9 @@ scaled-height-requires c κs = search needs
 mul-sum : tie.Need-mul-sum Inv-loop μ-loop
 mul-sum c =
     let at = c .before .before .before .before .before .before in
-    product-fits 200000 100000000
+    product-fits 200000 100000000 tt
     (omega (arith, at .before .pre .weight (at .loop .i) (omega arith)))
     (rw (c .before .scaled-height .ensures) (height-cap _ (omega arith) (omega arith)))
-    (omega arith)
 
 -- the sum with one axle more, whose place is that of the front axle less all the distances to it
 sum-of :

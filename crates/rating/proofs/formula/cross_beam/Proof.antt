@@ -4,7 +4,7 @@ use Prim.Native.Nat.{_*_}
 use mathlib.Core.Path.{sym}
 use native.Mathlib.Nat.{mul-pos}
 use native.Mathlib.Omega.{arith}
-use Rattle.rating.proofs.Products.{product-fits, product-cap}
+use Rattle.section.proofs.Products.{product-fits, product-cap}
 use Rattle.rating.proofs.Whole.{cross-beam-whole}
 use borrow.Author.Needs.{needs}
 use Rattle.rating.proofs.formula.cross_beam.Statement.{statement}

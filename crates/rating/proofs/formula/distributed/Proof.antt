@@ -4,7 +4,7 @@ use Prim.Native.Nat.{_*_, _/_, _≤_}
 use mathlib.Core.Path.{_≡_, ap, _∙_}
 use native.Mathlib.Nat.{div-div-eq-div-mul}
 use native.Mathlib.Omega.{arith}
-use Rattle.rating.proofs.Products.{Divisor, divisor}
+use Rattle.rating.proofs.Divisors.{Divisor, divisor}
 use borrow.Author.Needs.{needs}
 use Rattle.rating.proofs.formula.distributed.Statement.{statement}
 use Rattle.rating.proofs.formula.distributed.Tie as tie

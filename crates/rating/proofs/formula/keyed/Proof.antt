@@ -4,7 +4,7 @@ use Prim.Native.Nat.{_*_}
 use native.Mathlib.Omega.{arith}
 use Rattle.section.specs.Fraction.{over, whole, tenths, _·_}
 use Rattle.rating.specs.Formula.{keyed}
-use Rattle.rating.proofs.Products.{product-fits, product-cap}
+use Rattle.section.proofs.Products.{product-fits, product-cap}
 use borrow.Author.Needs.{needs}
 use Rattle.rating.proofs.formula.keyed.Statement.{statement}
 use Rattle.rating.proofs.formula.keyed.Tie as tie

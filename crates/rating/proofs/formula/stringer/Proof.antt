@@ -5,7 +5,7 @@ use mathlib.Core.Path.{sym}
 use native.Mathlib.Nat.{mul-pos}
 use native.Mathlib.Omega.{arith}
 use Rattle.rating.specs.PermittedLoad.{distribution}
-use Rattle.rating.proofs.Products.{product-fits, product-cap}
+use Rattle.section.proofs.Products.{product-fits, product-cap}
 use Rattle.rating.proofs.Whole.{stringer-whole}
 use borrow.Author.Needs.{needs}
 use Rattle.rating.proofs.formula.stringer.Statement.{statement}

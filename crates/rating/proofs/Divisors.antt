@@ -1,19 +1,10 @@
--- A product of two capped numbers fits 64 bits where the caps' product does, and is capped by it.
+-- The divisor of the lateral distribution, n (2d − e): above 0, at least 2d, and small enough for the quotient by parts.
 -- Assumes nothing.
 use Prim.Native.Nat.{ℕ, _-_, _*_, _^_, _≤_, _<_}
-use native.Mathlib.Nat.{mul-le-mul, lt-of-le-of-lt}
+use native.Mathlib.Nat.{mul-le-mul}
 use native.Mathlib.Omega.{arith}
-use lib.Dec.{T, ltb, ltb→lt}
-use mir.Val.{Fits}
-use mir.Syntax.{w64}
+use Rattle.section.proofs.Products.{product-fits}
 
-pub product-fits : (m n : ℕ) {x y : ℕ} → T (ltb (m * n) (2 ^ 64)) → x ≤ m → y ≤ n → Fits w64 (x * y)
-product-fits m n t p q = record { fits = lt-of-le-of-lt (mul-le-mul p q) (ltb→lt (m * n) (2 ^ 64) t) }
-
-pub product-cap : (m n : ℕ) {x y : ℕ} → x ≤ m → y ≤ n → x * y ≤ m * n
-product-cap m n p q = mul-le-mul p q
-
--- the divisor of the lateral distribution, n (2d − e)
 pub record Divisor (n d e : ℕ) : Type 0 where
   pub above-0 : 0 < n * (2 * d - e)
   pub at-least : 2 * d ≤ n * (2 * d - e)
