@@ -11,3 +11,4 @@ pub mod Places
 pub mod Surveys
 pub mod Turns
 pub mod Judged
+pub mod Written

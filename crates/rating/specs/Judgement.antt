@@ -19,13 +19,13 @@ abbrev pub verdictOf : (passes : Bool) → Verdict
 verdictOf true = Pass
 verdictOf false = Refuse
 
--- the least that f gives over the members
+-- the least that f gives over the members, 0 where there are none
 unfoldable pub least : (f : Member → ℕ) → List Member → ℕ
 least f [] = 0
 least f (m ∷ []) = f m
 least f (m ∷ n ∷ ms) = min (f m) (least f (n ∷ ms))
 
--- the place of the first member of which f gives x: "Places start at 1."
+-- the place of the first member of which f gives x, one more than the members before it: "Places start at 1."
 unfoldable pub firstWith : (f : Member → ℕ) (x : ℕ) → List Member → ℕ
 firstWith f x [] = 0
 firstWith f x (m ∷ ms) = choose (eqb (f m) x) 1 (1 + firstWith f x ms)
