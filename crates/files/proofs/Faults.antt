@@ -11,7 +11,6 @@ use lib.ListN.{length, getD}
 use lib.Dec.{eqb}
 use borrow.Author.Tests.{eqb-true, eqb-false, ne-eqb}
 use Rattle.section.specs.Choose.{choose}
-
 use Rattle.files.specs.Words.{each}
 use Rattle.files.specs.Reading.{firstFault, numberOf, placeOf}
 use Rattle.files.specs.declared.Refusal.{Refusal}

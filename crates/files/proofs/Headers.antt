@@ -7,7 +7,7 @@ use native.Mathlib.Omega.{arith}
 use lib.ListN.{length, getD, take}
 use lib.Dec.{eqb, leb}
 use borrow.Author.Tests.{eqb-true, eq-eqb, leb-true, le-leb}
-use Rattle.rating.specs.Format.{_‥_, In}
+use Rattle.member.specs.Format.{_‥_, In}
 use Rattle.files.specs.Words.{byteAt, wordAt}
 use Rattle.files.specs.Reading.{_unless_, isIn}
 use Rattle.files.specs.Header.{marked, headerFault}

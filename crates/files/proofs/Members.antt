@@ -8,9 +8,9 @@ use native.Mathlib.Numerals.{add-one}
 use native.Mathlib.Omega.{arith}
 use lib.Dec.{eqb, leb}
 use borrow.Author.Tests.{eqb-true, eq-eqb, ne-eqb, leb-true, le-leb}
-use Rattle.rating.specs.declared.record.Member.{Member}
-use Rattle.rating.specs.Fields.{KIND, SPECIES, SPAN, CODE, MU-A, MU-B, FIELDS, field}
-use Rattle.rating.specs.Format.{_‥_, In, used, rangeOf, suits, AllowedMember}
+use Rattle.member.specs.declared.record.Member.{Member}
+use Rattle.member.specs.Fields.{KIND, SPECIES, SPAN, CODE, MU-A, MU-B, FIELDS, field}
+use Rattle.member.specs.Format.{_‥_, In, used, rangeOf, suits, AllowedMember}
 use Rattle.files.specs.Reading.{_unless_, firstOf, isIn, all}
 use Rattle.files.specs.SurveyFile.{zeroed, within, codeFault, fieldFault, memberFault}
 use Rattle.files.proofs.Tests.{both, either, in-range, range-in, all-at, all-of, all-fails, passed, none, first-is, rows-is}

@@ -6,10 +6,10 @@ use mathlib.Core.List.{List, _∷_}
 use mathlib.Core.Logic.{⊎-elim}
 use native.Mathlib.Omega.{arith}
 use lib.ListN.{length, getD, replicate}
-use Rattle.rating.specs.declared.record.Member.{Member}
-use Rattle.rating.specs.declared.record.Survey.{Survey}
-use Rattle.rating.specs.Fields.{MOST-MEMBERS, FIELDS, field}
-use Rattle.rating.specs.Format.{_‥_, In, AllowedMember}
+use Rattle.member.specs.declared.record.Member.{Member}
+use Rattle.member.specs.declared.record.Survey.{Survey}
+use Rattle.member.specs.Fields.{MOST-MEMBERS, FIELDS, field}
+use Rattle.member.specs.Format.{_‥_, In, AllowedMember}
 use Rattle.files.specs.Words.{wordAt}
 use Rattle.files.specs.SurveyFile.{SURVEY-HEADER, RECORD, countOf, recordAt, surveyHeader, memberFault, recordFaults, surveyAnswer, blankMember, blankSurvey, surveyOf, surveyBy, readSurvey}
 use Rattle.files.specs.Allowed.{AllowedSurveyFile, SurveyRefusal}

@@ -8,7 +8,7 @@ use native.Mathlib.Omega.{arith}
 use lib.ListN.{getD}
 use lib.Dec.{eqb, leb}
 use borrow.Author.Tests.{eqb-true, ne-eqb}
-use Rattle.rating.specs.Format.{Range, _‥_, In, rangeOf, ranges, sectionRange, sectionRanges}
+use Rattle.member.specs.Format.{Range, _‥_, In, rangeOf, ranges, sectionRange, sectionRanges}
 use Rattle.files.specs.Reading.{all}
 use Rattle.files.proofs.Tests.{all-at, either}
 

@@ -9,7 +9,7 @@ use native.Mathlib.Decide.{decLt}
 use lib.Dec.{eqb, leb}
 use borrow.Author.Tests.{leb-true, le-leb, eqb-true, not-true, not-false}
 use Rattle.section.specs.Choose.{choose}
-use Rattle.rating.specs.Format.{Range, In}
+use Rattle.member.specs.Format.{Range, In}
 use Rattle.files.specs.Reading.{_unless_, firstOf, isIn, all}
 
 pub both : (a b : Bool) → (a && b) ≡ true → (a ≡ true) × (b ≡ true)

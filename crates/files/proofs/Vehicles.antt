@@ -8,12 +8,12 @@ use mathlib.Core.Bool.{_&&_}
 use native.Mathlib.Omega.{arith}
 use lib.ListN.{length, getD, replicate}
 use borrow.Author.Tests.{ne-eqb}
-use Rattle.rating.specs.declared.record.Vehicle.{Vehicle}
-use Rattle.rating.specs.Format.{In, classRange, trackRange, weightRange, laterRange, AllowedVehicle}
+use Rattle.member.specs.declared.record.Vehicle.{Vehicle}
+use Rattle.member.specs.Format.{In, classRange, trackRange, weightRange, laterRange, AllowedVehicle}
 use Rattle.files.specs.Words.{wordAt}
 use Rattle.files.specs.Reading.{_unless_, isIn}
 use Rattle.files.specs.Header.{headerFault}
-use Rattle.rating.specs.Fields.{MOST-AXLES}
+use Rattle.member.specs.Fields.{MOST-AXLES}
 use Rattle.files.specs.VehicleFile.{VEHICLE-HEADER, AXLE, axlesOf, classOf, trackOf, weightAt, distanceAt, axleRange, vehicleHeader, axleWithin, axleFault, axleFaults, vehicleAnswer, blankVehicle, vehicleOf, vehicleBy, readVehicle}
 use Rattle.files.specs.Allowed.{AllowedVehicleFile, VehicleRefusal}
 use Rattle.files.specs.declared.Refusal.{Refusal}

@@ -4,10 +4,10 @@ use mathlib.Core.Path.{_≡_}
 use mathlib.Core.List.{List, [], _∷_}
 use mathlib.Core.Logic.{_⊎_}
 use lib.ListN.{length, take}
-use Rattle.rating.specs.Format.{_‥_, In, AllowedMember, AllowedVehicle}
+use Rattle.member.specs.Format.{_‥_, In, AllowedMember, AllowedVehicle}
 use Rattle.files.specs.declared.Refusal.{Refusal}
 use Rattle.files.specs.Words.{wordAt}
-use Rattle.rating.specs.Fields.{MOST-MEMBERS}
+use Rattle.member.specs.Fields.{MOST-MEMBERS}
 use Rattle.files.specs.SurveyFile.{SURVEY-HEADER, RECORD, countOf, recordAt}
 use Rattle.files.specs.VehicleFile.{VEHICLE-HEADER, AXLE, axlesOf, vehicleOf}
 

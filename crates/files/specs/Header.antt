@@ -5,7 +5,7 @@ use mathlib.Core.List.{List, [], _∷_}
 use mathlib.Core.Bool.{Bool, _&&_}
 use lib.ListN.{length}
 use lib.Dec.{eqb, leb}
-use Rattle.rating.specs.Format.{_‥_}
+use Rattle.member.specs.Format.{_‥_}
 use Rattle.files.specs.Words.{byteAt, wordAt}
 use Rattle.files.specs.Reading.{_unless_, firstOf, isIn}
 

@@ -5,10 +5,10 @@ use mathlib.Core.List.{List, [], _∷_, _++_}
 use mathlib.Core.Bool.{Bool, not, _&&_, _||_}
 use lib.ListN.{replicate}
 use lib.Dec.{eqb, leb}
-use Rattle.rating.specs.declared.record.Member.{Member}
-use Rattle.rating.specs.declared.record.Survey.{Survey}
-use Rattle.rating.specs.Fields.{KIND, SPECIES, SPAN, CODE, MU-A, MU-B, FIELDS, MOST-MEMBERS, field}
-use Rattle.rating.specs.Format.{_‥_, used, rangeOf, suits}
+use Rattle.member.specs.declared.record.Member.{Member}
+use Rattle.member.specs.declared.record.Survey.{Survey}
+use Rattle.member.specs.Fields.{KIND, SPECIES, SPAN, CODE, MU-A, MU-B, FIELDS, MOST-MEMBERS, field}
+use Rattle.member.specs.Format.{_‥_, used, rangeOf, suits}
 use Rattle.files.specs.Words.{byteAt, words, each}
 use Rattle.files.specs.Reading.{_unless_, firstOf, firstFault, isIn, all}
 use Rattle.files.specs.Header.{headerFault}

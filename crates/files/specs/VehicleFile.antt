@@ -6,10 +6,10 @@ use mathlib.Core.List.{List, [], _∷_, _++_}
 use mathlib.Core.Bool.{Bool, _&&_}
 use lib.ListN.{replicate}
 use lib.Dec.{eqb}
-use Rattle.rating.specs.declared.record.Vehicle.{Vehicle}
-use Rattle.rating.specs.Fields.{MOST-AXLES}
+use Rattle.member.specs.declared.record.Vehicle.{Vehicle}
+use Rattle.member.specs.Fields.{MOST-AXLES}
 use Rattle.section.specs.Choose.{choose}
-use Rattle.rating.specs.Format.{Range, _‥_, classRange, trackRange, weightRange, laterRange}
+use Rattle.member.specs.Format.{Range, _‥_, classRange, trackRange, weightRange, laterRange}
 use Rattle.files.specs.Words.{byteAt, wordAt, each}
 use Rattle.files.specs.Reading.{_unless_, firstOf, firstFault, isIn}
 use Rattle.files.specs.Header.{headerFault}

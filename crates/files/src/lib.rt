@@ -1,14 +1,14 @@
 // The survey file and the vehicle file: bytes of any length become a survey or a vehicle, or the first fault with its
 // number and place.
+mod fault;
 mod header;
-mod member;
 mod ranges;
 pub mod survey;
 pub mod vehicle;
 mod words;
 
-use rating::record::Survey;
-use rating::record::Vehicle;
+use member::record::Survey;
+use member::record::Vehicle;
 
 // A refusal: document 01's number, and the place of the record that has the fault.
 pub struct Refusal {

@@ -1,19 +1,19 @@
 // The tables of document 01: which section suits a kind, which fields a record uses, and the ranges of those.
-use rating::record::DISTANCE;
-use rating::record::HEIGHT;
-use rating::record::MU_A;
-use rating::record::MU_B;
-use rating::record::S1;
-use rating::record::S3;
-use rating::record::S4;
-use rating::record::S5;
-use rating::record::S6;
-use rating::record::SPACING;
-use rating::record::SPECIES;
+use member::record::DISTANCE;
+use member::record::HEIGHT;
+use member::record::MU_A;
+use member::record::MU_B;
+use member::record::S1;
+use member::record::S3;
+use member::record::S4;
+use member::record::S5;
+use member::record::S6;
+use member::record::SPACING;
+use member::record::SPECIES;
 ghost use mathlib.Core.Path.{_≡_};
 ghost use Prim.Native.Nat.{_<_};
-ghost use Rattle.rating.specs.Fields.{FIELDS};
-ghost use Rattle.rating.specs.Format.{_‥_, holds, unusedByKind, unusedByCode, used, distanceRange, sectionRange, rangeOf, suits};
+ghost use Rattle.member.specs.Fields.{FIELDS};
+ghost use Rattle.member.specs.Format.{_‥_, holds, unusedByKind, unusedByCode, used, distanceRange, sectionRange, rangeOf, suits};
 ghost use Rattle.files.specs.Reading.{isIn};
 
 // The ranges of the fields that no code and no kind changes; 0 for x and for s1 to s6.

@@ -2,25 +2,25 @@
 use crate::Reading;
 use crate::Refusal;
 use crate::SurveyRead;
+use crate::fault::code_fault;
+use crate::fault::is_within;
+use crate::fault::is_zeroed;
 use crate::header::header_fault;
-use crate::member::code_fault;
-use crate::member::is_within;
-use crate::member::is_zeroed;
 use crate::words::wide;
 use crate::words::words;
-use rating::record::FIELDS;
-use rating::record::MOST_MEMBERS;
-use rating::record::MU_A;
-use rating::record::MU_B;
-use rating::record::Member;
-use rating::record::Survey;
+use member::record::FIELDS;
+use member::record::MOST_MEMBERS;
+use member::record::MU_A;
+use member::record::MU_B;
+use member::record::Member;
+use member::record::Survey;
 ghost use mathlib.Core.Path.{_≡_};
 ghost use mathlib.Core.List.{_++_};
 ghost use Prim.Native.Nat.{_+_, _-_, _*_, _≤_, _<_};
 ghost use lib.ListN.{length, replicate};
 ghost use Rattle.files.specs.Words.{each};
 ghost use Rattle.files.specs.Reading.{firstFault};
-ghost use Rattle.rating.specs.Fields.{MOST-MEMBERS};
+ghost use Rattle.member.specs.Fields.{MOST-MEMBERS};
 ghost use Rattle.files.specs.SurveyFile.{SURVEY-HEADER, RECORD, recordAt, recordFaults, blankMember, blankSurvey, readSurvey};
 
 // The letters, the version and the count.

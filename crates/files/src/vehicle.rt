@@ -7,14 +7,14 @@ use crate::ranges::inside;
 use crate::words::wide;
 use crate::words::word_at;
 use crate::words::words;
-use rating::record::MOST_AXLES;
-use rating::record::Vehicle;
+use member::record::MOST_AXLES;
+use member::record::Vehicle;
 ghost use mathlib.Core.Path.{_≡_};
 ghost use Prim.Native.Nat.{_+_, _*_, _≤_};
 ghost use lib.ListN.{length, getD};
 ghost use Rattle.files.specs.Words.{each};
 ghost use Rattle.files.specs.Reading.{firstFault};
-ghost use Rattle.rating.specs.Fields.{MOST-AXLES};
+ghost use Rattle.member.specs.Fields.{MOST-AXLES};
 ghost use Rattle.files.specs.VehicleFile.{VEHICLE-HEADER, AXLE, axlesOf, axleWithin, axleFaults, vehicleHeader, vehicleOf, blankVehicle, readVehicle};
 
 // The letters, the version, class, track and count.

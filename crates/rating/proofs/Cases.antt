@@ -7,8 +7,8 @@ use Rattle.section.specs.Dowel.{leastTerm, termOf, dowelCapacity}
 use Rattle.section.specs.Log.{netDiameter, logTable, logModulus, tieredModulus}
 use Rattle.section.specs.Sawn.{sawnModulus, sawnArea, areaLeft}
 use Rattle.influence.specs.Influence.{sum, total, greatestUpTo, height, axleSum, perMetre, gives, greatestOneWay, greatest, behind, vehicleLoad}
-use Rattle.rating.specs.Formula.{stringer, crossBeam, chord, joint, dowelled, keyed, plates, permitted}
-use Rattle.rating.specs.PermittedLoad.{distribution, sectionModulus, netArea, capacity, jointFront, formulaOf, permittedLoad}
+use Rattle.member.specs.Formula.{stringer, crossBeam, chord, joint, dowelled, keyed, plates, permitted}
+use Rattle.member.specs.PermittedLoad.{distribution, sectionModulus, netArea, capacity, jointFront, formulaOf, permittedLoad}
 use Rattle.rating.specs.VehicleLoad.{lineOf, vehicleLoadOn}
 use Rattle.rating.specs.Cases.{cases, allHold}
 

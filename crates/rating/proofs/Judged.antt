@@ -9,16 +9,17 @@ use native.Mathlib.Omega.{arith}
 use lib.ListN.{length}
 use borrow.Author.Tests.{leb-true, le-leb}
 use Rattle.influence.proofs.Load.{load-grows}
-use Rattle.rating.specs.Fields.{SPAN, DISTANCE}
-use Rattle.rating.specs.Format.{AllowedMember}
-use Rattle.rating.specs.Compare.{rotFields, lostFields, wears, Worn, Heavier, Matching, SamePlaces}
+use Rattle.member.specs.Fields.{SPAN, DISTANCE}
+use Rattle.member.specs.Format.{AllowedMember}
+use Rattle.rating.specs.Compare.{Heavier, Matching, SamePlaces}
+use Rattle.member.specs.Wear.{rotFields, lostFields, wears, Worn}
 use Rattle.rating.specs.VehicleLoad.{vehicleLoadOn}
 use Rattle.rating.specs.Judgement.{verdictOf, permittedFor, passes, everyPasses, ratingOf, judgementOf}
 use Rattle.rating.specs.Surveyed.{memberAt, AllowedMembers}
-use Rattle.rating.specs.declared.record.Member.{Member}
-use Rattle.rating.specs.declared.record.Vehicle.{Vehicle}
+use Rattle.member.specs.declared.record.Member.{Member}
+use Rattle.member.specs.declared.record.Vehicle.{Vehicle}
 use Rattle.rating.specs.declared.judging.Verdict.the-variants.{Refuse}
-use Rattle.rating.proofs.Falling.{same, same-kind, permitted-load-falls}
+use Rattle.member.proofs.Falling.{same, same-kind, permitted-load-falls}
 use Rattle.rating.proofs.Lines.{line-sized}
 use Rattle.rating.proofs.Places.{least-below, least-had}
 

@@ -1,11 +1,4 @@
-pub mod Allowed
 pub mod Cases
-pub mod Divisors
-pub mod Exact
-pub mod EachKind
-pub mod Falling
-pub mod Quantities
-pub mod Whole
 pub mod Lines
 pub mod Places
 pub mod Surveys

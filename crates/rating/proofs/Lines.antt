@@ -14,12 +14,12 @@ use Rattle.section.specs.Fraction.{whole, _⊑_, RoundedUp}
 use Rattle.influence.specs.Influence.{Triangle, gives, greatest, weight, behind}
 use Rattle.influence.specs.Bounds.{Bounded}
 use Rattle.influence.proofs.Load.{load-covers, load-rounded-up}
-use Rattle.rating.specs.Fields.{KIND, SPAN, DISTANCE, field}
-use Rattle.rating.specs.Format.{AllowedMember, AllowedVehicle, used, unusedByKind, unusedByCode, suits, bending}
+use Rattle.member.specs.Fields.{KIND, SPAN, DISTANCE, field}
+use Rattle.member.specs.Format.{AllowedMember, AllowedVehicle, used, unusedByKind, unusedByCode, suits, bending}
 use Rattle.rating.specs.VehicleLoad.{Line, lineOf, influenceLine, vehicleLoadOn}
-use Rattle.rating.specs.declared.record.Member.{Member}
-use Rattle.rating.specs.declared.record.Vehicle.{Vehicle}
-use Rattle.rating.proofs.Quantities.{by-kind, sizes, panel, inside}
+use Rattle.member.specs.declared.record.Member.{Member}
+use Rattle.member.specs.declared.record.Vehicle.{Vehicle}
+use Rattle.member.proofs.Quantities.{by-kind, sizes, panel, inside}
 
 -- the base and the apex by kind
 pub base-is-span : (kind l x : ℕ) → (kind ≡ 2 → ⊥) → lineOf kind l x .base ≡ 2 * l

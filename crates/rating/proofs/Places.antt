@@ -10,8 +10,8 @@ use lib.ListN.{length}
 use borrow.Author.Tests.{eq-eqb, ne-eqb}
 use Rattle.rating.specs.Judgement.{least, firstWith, permittedFor, figure, judgementOf}
 use Rattle.rating.specs.Surveyed.{memberAt}
-use Rattle.rating.specs.declared.record.Member.{Member}
-use Rattle.rating.specs.declared.record.Vehicle.{Vehicle}
+use Rattle.member.specs.declared.record.Member.{Member}
+use Rattle.member.specs.declared.record.Vehicle.{Vehicle}
 
 -- a member of the list of which f gives x
 pub record Has (f : Member → ℕ) (ms : List Member) (x : ℕ) : Type 0 where

@@ -6,10 +6,10 @@ use mathlib.Core.List.{List, [], _∷_}
 use native.Mathlib.Omega.{arith}
 use lib.ListN.{length}
 use lib.Seq.{getD-take, length-take-le}
-use Rattle.rating.specs.Format.{AllowedMember}
+use Rattle.member.specs.Format.{AllowedMember}
 use Rattle.rating.specs.Surveyed.{memberAt, membersOf, AllowedMembers, AllowedSurvey}
-use Rattle.rating.specs.declared.record.Member.{Member}
-use Rattle.rating.specs.declared.record.Survey.{Survey}
+use Rattle.member.specs.declared.record.Member.{Member}
+use Rattle.member.specs.declared.record.Survey.{Survey}
 
 -- an allowed member stands in the list
 pub present : (ms : List Member) (i : ℕ) → AllowedMember (memberAt ms i) → i < length ms

@@ -12,15 +12,15 @@ use lib.Dec.{eqb, leb, ltb}
 use lib.ListN.{length, drop, take, set, length-append, length-drop, length-take}
 use lib.Seq.{sets-eq, take-at, take-suc, drop-append-add, drop-drop, length-take-le}
 use borrow.Author.Tests.{eq-eqb, ne-eqb, le-ltb, lt-ltb}
-use Rattle.rating.specs.PermittedLoad.{permittedLoad}
+use Rattle.member.specs.PermittedLoad.{permittedLoad}
 use Rattle.rating.specs.VehicleLoad.{vehicleLoadOn}
 use Rattle.rating.specs.Judgement.{verdictOf, permittedFor, passes, everyPasses, least, firstWith, figure, loads, written, ratingOf, judgementOf}
 use Rattle.rating.specs.Turn.{both, withMember}
 use Rattle.rating.specs.Surveyed.{memberAt, AllowedSurvey}
 use Rattle.section.specs.declared.KgfPerM.{KgfPerM}
-use Rattle.rating.specs.declared.record.Member.{Member}
-use Rattle.rating.specs.declared.record.Survey.{Survey}
-use Rattle.rating.specs.declared.record.Vehicle.{Vehicle}
+use Rattle.member.specs.declared.record.Member.{Member}
+use Rattle.member.specs.declared.record.Survey.{Survey}
+use Rattle.member.specs.declared.record.Vehicle.{Vehicle}
 use Rattle.rating.specs.declared.judging.Verdict.{Verdict}
 use Rattle.rating.specs.declared.judging.Rating.{Rating}
 use Rattle.rating.specs.declared.judging.Judgement.{Judgement}

@@ -9,8 +9,8 @@ use lib.Seq.{getD-append-add, getD-drop}
 use Rattle.rating.specs.Judgement.{permittedFor, loads, written, ratingOf}
 use Rattle.rating.specs.VehicleLoad.{vehicleLoadOn}
 use Rattle.rating.specs.Surveyed.{memberAt}
-use Rattle.rating.specs.declared.record.Member.{Member}
-use Rattle.rating.specs.declared.record.Vehicle.{Vehicle}
+use Rattle.member.specs.declared.record.Member.{Member}
+use Rattle.member.specs.declared.record.Vehicle.{Vehicle}
 use Rattle.rating.proofs.Turns.{loads-length}
 
 module _ (v : Vehicle) where

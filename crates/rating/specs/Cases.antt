@@ -5,10 +5,10 @@ use mathlib.Core.Bool.{Bool, true, _&&_}
 use mathlib.Core.List.{List, [], _∷_}
 use lib.Dec.{eqb}
 use lib.ListN.{length}
-use Rattle.rating.specs.PermittedLoad.{permittedLoad, capacity}
+use Rattle.member.specs.PermittedLoad.{permittedLoad, capacity}
 use Rattle.rating.specs.VehicleLoad.{vehicleLoadOn}
-use Rattle.rating.specs.declared.record.Member.{Member}
-use Rattle.rating.specs.declared.record.Vehicle.{Vehicle}
+use Rattle.member.specs.declared.record.Member.{Member}
+use Rattle.member.specs.declared.record.Vehicle.{Vehicle}
 
 -- A row: a record's sixteen numbers in the file's order, and what its permitted load, or its T in tenths, is; or with the weights
 -- and distances of axles what the vehicle load on it is.

@@ -1,9 +1,4 @@
 pub mod Compare
-pub mod Fields
-pub mod Format
-pub mod Formula
-pub mod PermittedLoad
-pub mod Sizes
 pub mod Cases
 pub mod Surveyed
 pub mod VehicleLoad

@@ -2,10 +2,10 @@
 use Prim.Native.Nat.{ℕ, _<_}
 use mathlib.Core.List.{List, []}
 use lib.ListN.{length, take, getD}
-use Rattle.rating.specs.Fields.{MOST-MEMBERS}
-use Rattle.rating.specs.Format.{AllowedMember, In, _‥_}
-use Rattle.rating.specs.declared.record.Member.{Member}
-use Rattle.rating.specs.declared.record.Survey.{Survey}
+use Rattle.member.specs.Fields.{MOST-MEMBERS}
+use Rattle.member.specs.Format.{AllowedMember, In, _‥_}
+use Rattle.member.specs.declared.record.Member.{Member}
+use Rattle.member.specs.declared.record.Survey.{Survey}
 
 -- the member at an index, from 0; past the last one a record with no numbers, which is not allowed
 abbrev pub memberAt : List Member → ℕ → Member

@@ -3,9 +3,9 @@ use Prim.Native.Nat.{ℕ, _*_}
 use lib.Dec.{eqb}
 use Rattle.section.specs.Choose.{choose}
 use Rattle.influence.specs.Influence.{vehicleLoad}
-use Rattle.rating.specs.Fields.{KIND, SPAN, DISTANCE, field}
-use Rattle.rating.specs.declared.record.Member.{Member}
-use Rattle.rating.specs.declared.record.Vehicle.{Vehicle}
+use Rattle.member.specs.Fields.{KIND, SPAN, DISTANCE, field}
+use Rattle.member.specs.declared.record.Member.{Member}
+use Rattle.member.specs.declared.record.Vehicle.{Vehicle}
 
 -- a length of n centimetres, in half centimetres
 abbrev pub cm : ℕ → ℕ

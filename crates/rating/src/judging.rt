@@ -3,13 +3,13 @@ ghost use mathlib.Core.Path.{_≡_};
 ghost use Prim.Native.Nat.{_+_, _*_, _≤_, _<_};
 ghost use lib.ListN.{length};
 ghost use lib.Dec.{leb};
-ghost use Rattle.rating.specs.Format.{AllowedMember, AllowedVehicle};
+ghost use Rattle.member.specs.Format.{AllowedMember, AllowedVehicle};
 ghost use Rattle.rating.specs.Surveyed.{membersOf, AllowedSurvey};
 ghost use Rattle.rating.specs.Judgement.{verdictOf, ratingOf, judgementOf, written};
 ghost use Rattle.rating.specs.Turn.{both, withMember};
-use crate::permitted::permitted_load;
-use crate::record::*;
 use crate::vehicle::vehicle_load_on;
+use member::permitted::permitted_load;
+use member::record::*;
 use section::Cm;
 use section::KgfPerM;
 

@@ -1,6 +1,3 @@
-// Rating and judging: what each member may carry, what the vehicle puts on it, and whether the bridge may be crossed.
-pub mod formula;
+// Rating and judging: what the vehicle puts on each member, against what it may carry, and whether the bridge may be crossed.
 pub mod judging;
-pub mod permitted;
-pub mod record;
-pub mod vehicle;
+mod vehicle;

@@ -1,11 +1,11 @@
 // The load that a vehicle's axles put on a member, over the member's influence line.
 ghost use mathlib.Core.Path.{_≡_};
-ghost use Rattle.rating.specs.Format.{AllowedMember, AllowedVehicle};
+ghost use Rattle.member.specs.Format.{AllowedMember, AllowedVehicle};
 ghost use Rattle.rating.specs.VehicleLoad.{influenceLine, vehicleLoadOn};
-use crate::record::*;
 use influence::HalfCm;
 use influence::half_cm;
 use influence::vehicle_load;
+use member::record::*;
 use section::Cm;
 use section::KgfPerM;
 

@@ -13,15 +13,15 @@ use borrow.Author.Tests.{ne-eqb, eqb-false, le-leb}
 use Rattle.section.specs.Choose.{choose}
 use Rattle.section.specs.Fraction.{whole, _⊕_, _⊑_, _⊏_}
 use Rattle.rating.specs.Compare.{SamePlaces, Heavier}
-use Rattle.rating.specs.Format.{AllowedMember, AllowedVehicle, In, _‥_}
+use Rattle.member.specs.Format.{AllowedMember, AllowedVehicle, In, _‥_}
 use Rattle.rating.specs.Judgement.{ratingOf, judgementOf, written}
 use Rattle.rating.specs.Surveyed.{AllowedSurvey, AllowedMembers, memberAt}
 use Rattle.influence.specs.Influence.{weight, behind}
 use Rattle.influence.proofs.Greatest.{greatest-given}
 use Rattle.rating.specs.VehicleLoad.{vehicleLoadOn}
-use Rattle.rating.specs.declared.record.Member.{Member}
-use Rattle.rating.specs.declared.record.Vehicle.{Vehicle}
-use Rattle.rating.proofs.Falling.{permitted-load-exact}
+use Rattle.member.specs.declared.record.Member.{Member}
+use Rattle.member.specs.declared.record.Vehicle.{Vehicle}
+use Rattle.member.proofs.Falling.{permitted-load-exact}
 use Rattle.rating.proofs.Judged.{vehicle-load-rises, permitted-falls, member-stays-refused, figure-falls, bridge-stays-refused, same-places}
 use Rattle.rating.proofs.Lines.{line-sized, vehicle-load-covers, vehicle-load-rounded-up}
 use Rattle.rating.proofs.Places.{figure-least, governing-first}

@@ -6,14 +6,14 @@ use mathlib.Core.Bool.{Bool, true, false, not}
 use mathlib.Core.List.{List, [], _∷_}
 use native.Mathlib.Decide.{decLe}
 use native.Mathlib.Omega.{arith}
-use Rattle.rating.specs.Fields.{MOST-MEMBERS}
+use Rattle.member.specs.Fields.{MOST-MEMBERS}
 use lib.Dec.{eqb, leb}
 use lib.ListN.{replicate}
 use borrow.Author.Tests.{eqb-false, leb-true, ne-eqb}
-use Rattle.rating.specs.Format.{AllowedMember, AllowedVehicle, In, _‥_}
+use Rattle.member.specs.Format.{AllowedMember, AllowedVehicle, In, _‥_}
 use Rattle.rating.specs.Surveyed.{AllowedSurvey, membersOf, memberAt}
-use Rattle.rating.specs.declared.record.Survey.{Survey}
-use Rattle.rating.specs.declared.record.Vehicle.{Vehicle}
+use Rattle.member.specs.declared.record.Survey.{Survey}
+use Rattle.member.specs.declared.record.Vehicle.{Vehicle}
 use Rattle.files.specs.Reading.{_unless_, firstOf, isIn}
 use Rattle.files.specs.SurveyFile.{readSurvey}
 use Rattle.files.specs.VehicleFile.{readVehicle}

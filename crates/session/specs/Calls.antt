@@ -5,18 +5,18 @@ use mathlib.Core.List.{List, [], _∷_}
 use lib.Dec.{eqb, leb}
 use lib.ListN.{length, replicate}
 use Rattle.section.specs.Choose.{choose}
-use Rattle.rating.specs.Fields.{MOST-MEMBERS}
-use Rattle.rating.specs.Format.{AllowedVehicle, _‥_}
+use Rattle.member.specs.Fields.{MOST-MEMBERS}
+use Rattle.member.specs.Format.{AllowedVehicle, _‥_}
 use Rattle.rating.specs.Judgement.{ratingOf, judgementOf, written}
 use Rattle.rating.specs.Surveyed.{AllowedSurvey, membersOf, memberAt}
-use Rattle.rating.specs.declared.record.Member.{Member}
+use Rattle.member.specs.declared.record.Member.{Member}
 use Rattle.files.specs.Reading.{_unless_, firstOf, isIn}
 use Rattle.files.specs.SurveyFile.{readSurvey, blankSurvey}
 use Rattle.files.specs.VehicleFile.{readVehicle, blankVehicle}
 use Rattle.files.specs.declared.Reading.{Reading}
 use Rattle.files.specs.declared.Reading.the-variants.{Taken, Refused}
-use Rattle.rating.specs.declared.record.Survey.{Survey}
-use Rattle.rating.specs.declared.record.Vehicle.{Vehicle}
+use Rattle.member.specs.declared.record.Survey.{Survey}
+use Rattle.member.specs.declared.record.Vehicle.{Vehicle}
 use Rattle.session.specs.Answers.{Answer, Values, RefusedAt, Outcome, refusedBy, ratingValues, judgementValues}
 use Rattle.session.specs.declared.Session.{Session}
 

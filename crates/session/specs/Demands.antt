@@ -8,15 +8,15 @@ use lib.ListN.{length}
 use Rattle.section.specs.Fraction.{Fraction, whole, _⊕_, _⊑_, _⊏_}
 use Rattle.influence.specs.Influence.{gives, weight, behind}
 use Rattle.rating.specs.Compare.{SamePlaces, Heavier}
-use Rattle.rating.specs.Format.{In, _‥_}
-use Rattle.rating.specs.Formula.{Permitted}
+use Rattle.member.specs.Format.{In, _‥_}
+use Rattle.member.specs.Formula.{Permitted}
 use Rattle.rating.specs.Judgement.{permittedFor, ratingOf, judgementOf, written}
-use Rattle.rating.specs.PermittedLoad.{formulaOf}
+use Rattle.member.specs.PermittedLoad.{formulaOf}
 use Rattle.rating.specs.Surveyed.{memberAt}
 use Rattle.rating.specs.VehicleLoad.{influenceLine, vehicleLoadOn}
 use Rattle.rating.specs.declared.judging.Verdict.the-variants.{Refuse}
-use Rattle.rating.specs.declared.record.Member.{Member}
-use Rattle.rating.specs.declared.record.Vehicle.{Vehicle}
+use Rattle.member.specs.declared.record.Member.{Member}
+use Rattle.member.specs.declared.record.Vehicle.{Vehicle}
 use Rattle.files.specs.Allowed.{AllowedSurveyFile, AllowedVehicleFile, SurveyRefusal, VehicleRefusal}
 use Rattle.files.specs.SurveyFile.{surveyOf}
 use Rattle.files.specs.VehicleFile.{vehicleOf}

@@ -3,7 +3,7 @@
 ghost use mathlib.Core.Path.{_≡_};
 ghost use Rattle.session.specs.Answers.{loaded, rated, judged, judgeAnswer};
 ghost use Prim.Native.Nat.{_≤_};
-ghost use Rattle.rating.specs.Fields.{MOST-MEMBERS};
+ghost use Rattle.member.specs.Fields.{MOST-MEMBERS};
 ghost use Rattle.session.specs.Calls.{Sound, newSession, loadSurvey, loadVehicle, stateFault, rateFault, judgeFault, rate, judge, judgeList, judgeFiles};
 use files::Reading;
 use files::Refusal;
@@ -11,12 +11,12 @@ use files::survey::blank_survey;
 use files::survey::read_survey;
 use files::vehicle::blank_vehicle;
 use files::vehicle::read_vehicle;
+use member::record::MOST_MEMBERS;
+use member::record::Survey;
+use member::record::Vehicle;
 use rating::judging;
 use rating::judging::Judgement;
 use rating::judging::Rating;
-use rating::record::MOST_MEMBERS;
-use rating::record::Survey;
-use rating::record::Vehicle;
 
 // A survey with count 0, or a vehicle with no axles, is not loaded.
 pub struct Session {

@@ -1,6 +1,6 @@
 -- `is_used` meets its contract: a field is used where neither the kind nor the code leaves it unused.
 use borrow.Author.Needs.{needs}
-use Rattle.rating.specs.Format.{used}
+use Rattle.member.specs.Format.{used}
 use Rattle.files.proofs.ranges.is_used.Statement.{statement}
 use Rattle.files.proofs.ranges.is_used.Tie as tie
 

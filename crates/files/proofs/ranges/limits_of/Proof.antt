@@ -8,7 +8,7 @@ use native.Mathlib.Omega.{arith}
 use lib.Dec.{leb}
 use borrow.Author.Needs.{needs}
 use borrow.Author.Tests.{ne-eqb, lt-leb}
-use Rattle.rating.specs.Format.{rangeOf, ranges}
+use Rattle.member.specs.Format.{rangeOf, ranges}
 use Rattle.files.proofs.Tables.{section-field, plain-entry, ruled}
 use Rattle.files.proofs.ranges.limits_of.Statement.{statement}
 use Rattle.files.proofs.ranges.limits_of.Tie as tie

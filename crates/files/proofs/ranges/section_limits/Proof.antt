@@ -2,7 +2,7 @@
 use mathlib.Core.Path.{refl}
 use native.Mathlib.Omega.{arith}
 use borrow.Author.Needs.{needs}
-use Rattle.rating.specs.Format.{_‥_, In, sectionRange, sectionRanges}
+use Rattle.member.specs.Format.{_‥_, In, sectionRange, sectionRanges}
 use Rattle.files.proofs.Tables.{section-entry, no-section}
 use Rattle.files.proofs.ranges.section_limits.Statement.{statement}
 use Rattle.files.proofs.ranges.section_limits.Tie as tie

@@ -1,6 +1,6 @@
 -- `suits_kind` meets its contract: the tests that led to each answer say which row of `suits` holds.
 use borrow.Author.Tests.{le-leb, lt-leb, eq-eqb, ne-eqb}
-use Rattle.rating.specs.Format.{suits, bending}
+use Rattle.member.specs.Format.{suits, bending}
 use Rattle.files.proofs.ranges.suits_kind.Statement.{statement}
 use Rattle.files.proofs.ranges.suits_kind.Tie as tie
 

@@ -1,7 +1,7 @@
 -- `unused_by_code` meets its contract: the tests that led to each answer say which of the document's lists it is.
 use mathlib.Core.Bool.{or-assoc, or-false}
 use borrow.Author.Tests.{eq-eqb, ne-eqb, le-leb, lt-leb}
-use Rattle.rating.specs.Format.{unusedByCode, bending}
+use Rattle.member.specs.Format.{unusedByCode, bending}
 use Rattle.files.proofs.ranges.unused_by_code.Statement.{statement}
 use Rattle.files.proofs.ranges.unused_by_code.Tie as tie
 

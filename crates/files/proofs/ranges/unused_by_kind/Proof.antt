@@ -1,7 +1,7 @@
 -- `unused_by_kind` meets its contract: the tests that led to each answer say which of the document's lists it is.
 use mathlib.Core.Bool.{or-assoc, or-false}
 use borrow.Author.Tests.{eq-eqb, ne-eqb}
-use Rattle.rating.specs.Format.{unusedByKind}
+use Rattle.member.specs.Format.{unusedByKind}
 use Rattle.files.proofs.ranges.unused_by_kind.Statement.{statement}
 use Rattle.files.proofs.ranges.unused_by_kind.Tie as tie
 

@@ -6,7 +6,7 @@ use mathlib.Core.List.{List}
 use mathlib.Core.Bool.{true, and-true}
 use native.Mathlib.Numerals.{add-one}
 use native.Mathlib.Omega.{arith}
-use Rattle.rating.specs.Fields.{FIELDS}
+use Rattle.member.specs.Fields.{FIELDS}
 use Rattle.files.specs.Words.{each}
 use Rattle.files.specs.Reading.{firstFault, all}
 use Rattle.files.specs.SurveyFile.{recordAt, memberFault, zeroed}

@@ -5,7 +5,7 @@ use mathlib.Core.List.{_++_}
 use native.Mathlib.Omega.{arith}
 use lib.ListN.{replicate}
 use Rattle.files.specs.Words.{each}
-use Rattle.rating.specs.Fields.{MOST-MEMBERS}
+use Rattle.member.specs.Fields.{MOST-MEMBERS}
 use Rattle.files.specs.SurveyFile.{recordAt, blankMember}
 use Rattle.files.proofs.Each.{store-each}
 use Rattle.files.proofs.survey.members_of.Statement.{statement}

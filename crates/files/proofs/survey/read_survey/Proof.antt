@@ -4,7 +4,7 @@ use mathlib.Core.Path.{sym, _∙_}
 use native.Mathlib.Omega.{arith}
 use borrow.Author.Needs.{needs}
 use denote.Ref.{now}
-use Rattle.rating.specs.Fields.{MOST-MEMBERS}
+use Rattle.member.specs.Fields.{MOST-MEMBERS}
 use Rattle.files.specs.SurveyFile.{SURVEY-HEADER, RECORD, countOf, recordFaults, surveyAnswer}
 use Rattle.files.proofs.Headers.{headed}
 use Rattle.files.proofs.Faults.{head-first, head-clear}

@@ -5,7 +5,7 @@ use native.Mathlib.Omega.{arith}
 use borrow.Author.Needs.{needs}
 use borrow.Author.Tests.{ne-eqb, not-true, not-false}
 use denote.Ref.{now}
-use Rattle.rating.specs.Fields.{MOST-AXLES}
+use Rattle.member.specs.Fields.{MOST-AXLES}
 use Rattle.files.specs.VehicleFile.{VEHICLE-HEADER, AXLE, vehicleHeader}
 use Rattle.files.proofs.Headers.{headed}
 use Rattle.files.proofs.vehicle.vehicle_header.Statement.{statement}

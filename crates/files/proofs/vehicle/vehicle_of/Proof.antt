@@ -3,7 +3,7 @@ use mathlib.Core.Path.{_∙_}
 use native.Mathlib.Omega.{arith}
 use borrow.Author.Needs.{needs}
 use denote.Ref.{now}
-use Rattle.rating.specs.Fields.{MOST-AXLES}
+use Rattle.member.specs.Fields.{MOST-AXLES}
 use Rattle.files.specs.VehicleFile.{weightAt}
 use Rattle.files.proofs.Each.{length-padded, each-own}
 use Rattle.files.proofs.vehicle.vehicle_of.Statement.{statement}

@@ -5,7 +5,7 @@ use mathlib.Core.List.{_++_}
 use native.Mathlib.Omega.{arith}
 use lib.ListN.{getD, replicate}
 use Rattle.files.specs.Words.{each}
-use Rattle.rating.specs.Fields.{MOST-AXLES}
+use Rattle.member.specs.Fields.{MOST-AXLES}
 use Rattle.files.proofs.Each.{store-each}
 use Rattle.files.proofs.vehicle.widened.Statement.{statement}
 use Rattle.files.proofs.vehicle.widened.Tie as tie

@@ -2,7 +2,7 @@
 -- Assumes nothing.
 use Prim.Native.Nat.{ℕ, _*_, _≤_}
 use mathlib.Core.Path.{_≡_, ap, sym, subst⁻¹, _∙_}
-use Rattle.rating.specs.Fields.{KIND, SPAN, DISTANCE, field}
+use Rattle.member.specs.Fields.{KIND, SPAN, DISTANCE, field}
 use Rattle.rating.specs.VehicleLoad.{influenceLine}
 use Rattle.rating.proofs.Lines.{apex-is-middle, apex-is-distance, distance-high, line-sized}
 use borrow.Author.Needs.{needs}

@@ -5,8 +5,8 @@ use native.Mathlib.Omega.{arith}
 use mathlib.Core.Path.{_≡_, ap, sym, subst⁻¹, _∙_}
 use mir.Syntax.{w64}
 use mir.Val.{Fits}
-use Rattle.rating.specs.Fields.{KIND, SPAN, DISTANCE, field}
-use Rattle.rating.proofs.Quantities.{panel}
+use Rattle.member.specs.Fields.{KIND, SPAN, DISTANCE, field}
+use Rattle.member.proofs.Quantities.{panel}
 use Rattle.rating.proofs.Lines.{base-is-span, base-is-panels, span-high}
 use borrow.Author.Needs.{needs}
 use Rattle.rating.proofs.vehicle.base_of.Statement.{statement}

@@ -5,7 +5,7 @@ use mathlib.Core.Path.{_≡_, refl, sym, _∙_}
 use native.Mathlib.Omega.{arith}
 use lib.Seq.{getD-take}
 use borrow.Author.Tests.{eq-eqb, ne-eqb}
-use Rattle.rating.specs.Format.{In, _‥_}
+use Rattle.member.specs.Format.{In, _‥_}
 use Rattle.rating.specs.Surveyed.{AllowedSurvey}
 use Rattle.session.specs.Calls.{rate}
 use Rattle.session.proofs.State.{Ready, rate-clear}

@@ -1,0 +1,60 @@
+// The faults of a member's record.
+use crate::ranges::inside;
+use crate::ranges::is_used;
+use crate::ranges::limits_of;
+use crate::ranges::suits_kind;
+use member::record::CODE;
+use member::record::KIND;
+use member::record::Member;
+use member::record::SPAN;
+use member::record::SPECIES;
+ghost use mathlib.Core.Path.{_≡_};
+ghost use Prim.Native.Nat.{_<_};
+ghost use Rattle.member.specs.Fields.{FIELDS};
+ghost use Rattle.files.specs.SurveyFile.{zeroed, within, codeFault};
+
+const LAST_KIND: u16 = 6;
+
+// 4 kind; 5 species, where used; 6 section code does not suit the kind; or 0.
+pub fn code_fault(m: Member) -> u64
+    ensures { λ r. ⌜ r ≡ codeFault m ⌝ }
+{
+    let kind = m.fields[KIND];
+    let code = m.fields[CODE];
+    if !inside(1, LAST_KIND, kind) {
+        return 4;
+    }
+    if !is_within(m, SPECIES) {
+        return 5;
+    }
+    if !suits_kind(kind, code) {
+        return 6;
+    }
+    0
+}
+
+// The field is 0 where the record does not use it.
+pub fn is_zeroed(m: Member, f: usize) -> bool
+    requires { ⌜ f < FIELDS ⌝ }
+    ensures { λ r. ⌜ r ≡ zeroed m f ⌝ }
+{
+    let kind = m.fields[KIND];
+    let code = m.fields[CODE];
+    let used = is_used(kind, code, f);
+    let zero = m.fields[f] == 0;
+    used | zero
+}
+
+// The field is in its range where the record uses it.
+pub fn is_within(m: Member, f: usize) -> bool
+    requires { ⌜ f < FIELDS ⌝ }
+    ensures { λ r. ⌜ r ≡ within m f ⌝ }
+{
+    let kind = m.fields[KIND];
+    let code = m.fields[CODE];
+    let span = m.fields[SPAN];
+    let unused = !is_used(kind, code, f);
+    let range = limits_of(kind, code, span, f);
+    let ok = inside(range.low, range.high, m.fields[f]);
+    unused | ok
+}

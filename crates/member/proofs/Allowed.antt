@@ -1,0 +1,165 @@
+-- What an allowed record's numbers keep to, read off its kind and code: a test that antt computes over the codes that suit the
+-- kind, and the range of the field.
+-- Assumes nothing.
+use Prim.Native.Nat.{ℕ, _≤_, _<_}
+use mathlib.Core.Path.{_≡_, refl, subst, subst₂}
+use mathlib.Core.Bool.{Bool, true, false, _&&_, _||_, and-eq-true-iff}
+use mathlib.Core.Logic.{⊎-elim, _⊎_, inl, inr}
+use native.Mathlib.Decide.{decLe}
+use native.Mathlib.Omega.{arith}
+use lib.Dec.{eqb, leb}
+use borrow.Author.Tests.{eqb-true, le-leb, lt-leb, ne-eqb}
+use Rattle.section.specs.Choose.{choose}
+use Rattle.member.specs.Fields.{KIND, SPECIES, SPAN, SPACING, DISTANCE, HEIGHT, DEAD-LOAD, CODE, S1, S2, S3, S4, S5, S6, MU-A, MU-B, FIELDS, field}
+use Rattle.member.specs.Format.{AllowedMember, In, used, unusedByKind, unusedByCode, ranges, rangeOf, sectionRange, sectionRanges, suits, bending}
+use Rattle.member.specs.declared.record.Member.{Member}
+
+-- what holds at every code that suits a kind
+abbrev implies : Bool → Bool → Bool
+implies true b = b
+implies false b = true
+
+abbrev pub everyCode : (kind : ℕ) → (ℕ → Bool) → Bool
+everyCode kind P =
+    implies (suits kind 1) (P 1) && (implies (suits kind 2) (P 2) && (implies (suits kind 3) (P 3) && implies (suits kind 4) (P 4)))
+
+met : (a b : Bool) → implies a b ≡ true → a ≡ true → b ≡ true
+met true b h e = h
+met false b h e = absurd (mathlib.Core.Bool.false≢true e)
+
+either : (a b : Bool) → (a || b) ≡ true → (a ≡ true) ⊎ (b ≡ true)
+either true b h = inl refl
+either false b h = inr h
+
+-- a code that suits a kind is one of the four
+pub one-of-four : (kind code : ℕ) → suits kind code ≡ true → ((code ≡ 1) ⊎ (code ≡ 2)) ⊎ ((code ≡ 3) ⊎ (code ≡ 4))
+unfolding suits
+one-of-four kind code h = go (bending kind) (eqb kind 3) (eqb kind 4) h
+  where
+    go : (t u v : Bool) → choose t (eqb code 1 || eqb code 2) (choose u (eqb code 2) (choose v (eqb code 3) (eqb code 4))) ≡ true →
+        ((code ≡ 1) ⊎ (code ≡ 2)) ⊎ ((code ≡ 3) ⊎ (code ≡ 4))
+    go true u v h = ⊎-elim (λ e. inl (inl (eqb-true _ _ e))) (λ e. inl (inr (eqb-true _ _ e))) (either (eqb code 1) (eqb code 2) h)
+    go false true v h = inl (inr (eqb-true _ _ h))
+    go false false true h = inr (inl (eqb-true _ _ h))
+    go false false false h = inr (inr (eqb-true _ _ h))
+
+pub every-code : (kind : ℕ) (P : ℕ → Bool) → everyCode kind P ≡ true → (code : ℕ) → suits kind code ≡ true → P code ≡ true
+every-code kind P t code s =
+    let a = and-eq-true-iff (implies (suits kind 1) (P 1)) _ .0 t in
+    let b = and-eq-true-iff (implies (suits kind 2) (P 2)) _ .0 (a .1) in
+    let d = and-eq-true-iff (implies (suits kind 3) (P 3)) _ .0 (b .1) in
+    ⊎-elim
+    (⊎-elim (λ e. at 1 (a .0) e) (λ e. at 2 (b .0) e))
+    (⊎-elim (λ e. at 3 (d .0) e) (λ e. at 4 (d .1) e))
+    (one-of-four kind code s)
+  where
+    at : (c : ℕ) → implies (suits kind c) (P c) ≡ true → code ≡ c → P code ≡ true
+    at c h e = rw e (met (suits kind c) (P c) h (rw e at s))
+
+module _ {m : Member} (a : AllowedMember m) where
+  -- the range of a field that a kind uses whatever its code
+  pub in-range : (kind f : ℕ) → field m KIND ≡ kind → f < FIELDS → everyCode kind (λ code. used kind code f) ≡ true →
+      In (rangeOf kind (field m CODE) (field m SPAN) f) (field m f)
+  in-range kind f e h t =
+      subst (λ (k : ℕ). used k (field m CODE) f ≡ true → In (rangeOf k (field m CODE) (field m SPAN) f) (field m f)) e (a .range f h)
+      (every-code kind (λ code. used kind code f) t (field m CODE) (subst (λ (k : ℕ). suits k (field m CODE) ≡ true) e (a .section)))
+
+  -- the range of a field that a kind and a code use
+  pub in-range-of : (kind code f : ℕ) → field m KIND ≡ kind → field m CODE ≡ code → f < FIELDS → used kind code f ≡ true →
+      In (rangeOf kind code (field m SPAN) f) (field m f)
+  in-range-of kind code f e c h t =
+      subst₂ (λ (k d : ℕ). used k d f ≡ true → In (rangeOf k d (field m SPAN) f) (field m f)) e c (a .range f h) t
+
+-- the sizes of the sections, by code
+pub record LogSizes (m : Member) : Type 0 where
+  pub diameter : field m S1 ≤ 39
+  pub rot : field m S2 ≤ 60
+  pub tiers-low : 1 ≤ field m S3
+  pub tiers-high : field m S3 ≤ 3
+
+pub record SawnSizes (m : Member) : Type 0 where
+  pub width : field m S1 ≤ 60
+  pub height : field m S2 ≤ 60
+  pub pieces : field m S5 ≤ 40
+
+pub record DowelSizes (m : Member) : Type 0 where
+  pub diameter : field m S2 ≤ 60
+  pub middle : field m S3 ≤ 60
+  pub outer : field m S4 ≤ 60
+  pub cuts : field m S6 ≤ 200
+
+module _ {m : Member} (a : AllowedMember m) where
+  -- a member in bending is of kind 1 or 2, and its section is a log or sawn
+  pub one-or-two : field m KIND ≤ 2 → (field m KIND ≡ 1) ⊎ (field m KIND ≡ 2)
+  one-or-two h = go (field m KIND) (a .kind .0) h
+    where
+      go : (k : ℕ) → 1 ≤ k → k ≤ 2 → (k ≡ 1) ⊎ (k ≡ 2)
+      go k p q = elim (decLe k 1) [ yes l ↦ inl (omega arith) | no n ↦ inr (omega arith) ]
+
+  pub log-sizes : field m KIND ≤ 2 → field m CODE ≡ 1 → LogSizes m
+  unfolding used unusedByKind unusedByCode bending rangeOf ranges sectionRange sectionRanges
+  log-sizes h c = ⊎-elim (λ e. of 1 e refl refl refl) (λ e. of 2 e refl refl refl) (one-or-two h)
+    where
+      of : (k : ℕ) → field m KIND ≡ k → used k 1 S1 ≡ true → used k 1 S2 ≡ true → used k 1 S3 ≡ true → LogSizes m
+      of k e u1 u2 u3 =
+          let s1 = in-range-of a k 1 S1 e c (omega arith) u1 in
+          let s2 = in-range-of a k 1 S2 e c (omega arith) u2 in
+          let s3 = in-range-of a k 1 S3 e c (omega arith) u3 in
+          record { diameter = s1 .1; rot = s2 .1; tiers-low = s3 .0; tiers-high = s3 .1 }
+
+  sawn-of : (k : ℕ) → field m KIND ≡ k → field m CODE ≡ 2 → used k 2 S1 ≡ true → used k 2 S2 ≡ true → used k 2 S5 ≡ true → SawnSizes m
+  unfolding rangeOf ranges sectionRange sectionRanges
+  sawn-of k e c u1 u2 u5 =
+      record {
+        width = in-range-of a k 2 S1 e c (omega arith) u1 .1;
+        height = in-range-of a k 2 S2 e c (omega arith) u2 .1;
+        pieces = in-range-of a k 2 S5 e c (omega arith) u5 .1;
+      }
+
+  pub code-in-bending : field m KIND ≤ 2 → (field m CODE ≡ 1) ⊎ (field m CODE ≡ 2)
+  unfolding bending suits
+  code-in-bending h =
+      ⊎-elim (λ e. inl (eqb-true _ _ e)) (λ e. inr (eqb-true _ _ e))
+      (either (eqb (field m CODE) 1) (eqb (field m CODE) 2) (rw (le-leb (field m KIND) 2 h) at (a .section)))
+
+  pub sawn-in-bending : field m KIND ≤ 2 → field m CODE ≡ 2 → SawnSizes m
+  unfolding used unusedByKind unusedByCode bending
+  sawn-in-bending h c = ⊎-elim (λ e. sawn-of 1 e c refl refl refl) (λ e. sawn-of 2 e c refl refl refl) (one-or-two h)
+
+  -- the code of the other kinds
+  pub chord-code : field m KIND ≡ 3 → field m CODE ≡ 2
+  unfolding suits bending
+  chord-code e = eqb-true _ _ (rw e at (a .section))
+
+  pub dowel-code : field m KIND ≡ 4 → field m CODE ≡ 3
+  unfolding suits bending
+  dowel-code e = eqb-true _ _ (rw e at (a .section))
+
+  pub area-code : 5 ≤ field m KIND → field m CODE ≡ 4
+  unfolding suits bending
+  area-code h = eqb-true _ _ (rw (lt-leb (field m KIND) 2 (omega arith), ne-eqb (field m KIND) 3 (omega arith), ne-eqb (field m KIND) 4 (omega arith)) at (a .section))
+
+  pub area-size : 5 ≤ field m KIND → field m S1 ≤ 10000
+  unfolding used unusedByKind unusedByCode rangeOf ranges sectionRange sectionRanges
+  area-size h = ⊎-elim (λ e. of 5 e refl) (λ e. of 6 e refl) five-or-six
+    where
+      of : (k : ℕ) → field m KIND ≡ k → used k 4 S1 ≡ true → field m S1 ≤ 10000
+      of k e u = in-range-of a k 4 S1 e (area-code h) (omega arith) u .1
+
+      five-or-six : (field m KIND ≡ 5) ⊎ (field m KIND ≡ 6)
+      five-or-six = elim (decLe (field m KIND) 5) [ yes l ↦ inl (omega arith) | no n ↦ inr (omega (arith, a .kind)) ]
+
+  pub sawn-chord : field m KIND ≡ 3 → SawnSizes m
+  unfolding used unusedByKind unusedByCode bending
+  sawn-chord e = sawn-of 3 e (chord-code e) refl refl refl
+
+  pub dowel-sizes : field m KIND ≡ 4 → DowelSizes m
+  unfolding used unusedByKind unusedByCode rangeOf ranges sectionRange sectionRanges
+  dowel-sizes e =
+      let c = dowel-code e in
+      record {
+        diameter = in-range-of a 4 3 S2 e c (omega arith) refl .1;
+        middle = in-range-of a 4 3 S3 e c (omega arith) refl .1;
+        outer = in-range-of a 4 3 S4 e c (omega arith) refl .1;
+        cuts = in-range-of a 4 3 S6 e c (omega arith) refl .1;
+      }

@@ -1,0 +1,119 @@
+-- Each kind's formula: its divisors are above 0, and its permitted load never rises when the section falls or the dead load
+-- rises. Every quantity is a fraction, so a log's W and a sawn beam's go the same way.
+-- Assumes nothing.
+use Prim.Native.Nat.{ℕ, _-_, _*_, _≤_, _<_}
+use mathlib.Core.Path.{_≡_, refl}
+use native.Mathlib.Nat.{mul-one, le-antisymm}
+use native.Mathlib.Omega.{arith}
+use Rattle.section.specs.Fraction.{Fraction, Sound, over, whole, tenths, hundredths, square, _·_, _⊖_, _⊑_, _≐_}
+use Rattle.section.proofs.Order.{⊑-refl, ≐-⊑, ≐-⊒, ·-mono, ·-sound, ⊖-sound, whole-sound, tenths-sound, square-sound}
+use Rattle.member.specs.Formula.{stringer, crossBeam, chord, joint, permitted}
+use Rattle.member.proofs.Exact.{Positive, ·-positive, Valid, permitted-mono}
+
+pub whole-positive : (n : ℕ) → 0 < n → Positive (whole n)
+unfolding whole
+whole-positive n h = record { sound = whole-sound n; above-0 = h }
+
+pub tenths-positive : (n : ℕ) → 0 < n → Positive (tenths n)
+unfolding tenths
+tenths-positive n h = record { sound = tenths-sound n; above-0 = h }
+
+pub over-sound : (n d : ℕ) → 0 < d → Sound (over n d)
+unfolding over
+over-sound n d s = record { above-0 = s }
+
+pub over-positive : (n d : ℕ) → 0 < n → 0 < d → Positive (over n d)
+unfolding over
+over-positive n d h s = record { sound = over-sound n d s; above-0 = h }
+
+pub square-positive : {a : Fraction} → Positive a → Positive (square a)
+unfolding square
+square-positive p = ·-positive p p
+
+pub rest-whole : (l x : ℕ) → whole l ⊖ whole x ≡ whole (l - x)
+unfolding whole _⊖_
+rest-whole l x = rw (mul-one l, mul-one x)
+
+pub rest-positive : (l x : ℕ) → x < l → Positive (whole l ⊖ whole x)
+rest-positive l x h = rw (rest-whole l x) (whole-positive (l - x) (omega arith))
+
+module _ {W K n q l Kₐ : Fraction} (sW : Sound W) (sK : Sound K) (pn : Positive n) (sq : Sound q) (pl : Positive l) (pKₐ : Positive Kₐ) where
+  pub stringer-valid : Valid (stringer W K n q l Kₐ)
+  unfolding stringer
+  stringer-valid =
+      record {
+        front = ·-sound (·-sound (whole-sound 1536) sW) sK;
+        dead = ·-sound (·-sound (tenths-sound 12) sq) (square-positive pl .sound);
+        divisor = ·-positive (·-positive pn pKₐ) (square-positive pl);
+      }
+
+module _ {W K n q l x : Fraction} (sW : Sound W) (sK : Sound K) (pn : Positive n) (sq : Sound q) (pl : Positive l) (px : Positive x) where
+  pub cross-beam-valid : Valid (crossBeam W K n q l x)
+  unfolding crossBeam
+  cross-beam-valid =
+      record {
+        front = ·-sound (·-sound (whole-sound 1280) sW) sK;
+        dead = ·-sound (·-sound (tenths-sound 12) sq) (square-positive pl .sound);
+        divisor = ·-positive (·-positive pn px) pl;
+      }
+
+module _ (l : Fraction) {h F K n q x Kₐ : Fraction} (sh : Sound h) (sF : Sound F) (sK : Sound K) (pn : Positive n) (sq : Sound q) (pr : Positive (l ⊖ x)) (px : Positive x) (pKₐ : Positive Kₐ) where
+  pub chord-valid : Valid (chord h F K n q l x Kₐ)
+  unfolding chord
+  chord-valid =
+      record {
+        front = ·-sound (·-sound (·-sound (whole-sound 200) sh) sF) sK;
+        dead = ·-sound (·-sound (·-sound (tenths-sound 12) sq) (pr .sound)) (px .sound);
+        divisor = ·-positive (·-positive (·-positive pn pKₐ) pr) px;
+      }
+
+module _ (l : Fraction) {front n q μ x Kₐ : Fraction} (sf : Sound front) (pn : Positive n) (sq : Sound q) (pμ : Positive μ) (pr : Positive (l ⊖ x)) (px : Positive x) (pKₐ : Positive Kₐ) where
+  pub joint-valid : Valid (joint front n q μ l x Kₐ)
+  unfolding joint
+  joint-valid =
+      record {
+        front = sf;
+        dead = ·-sound (·-sound (·-sound (·-sound (tenths-sound 12) sq) (pμ .sound)) (pr .sound)) (px .sound);
+        divisor = ·-positive (·-positive (·-positive (·-positive pμ pn) pKₐ) pr) px;
+      }
+
+-- the permitted load never rises when the section falls from the second to the first, or the dead load rises
+pub stringer-mono : (K n l Kₐ : Fraction) {W W' q q' : Fraction} → Valid (stringer W K n q l Kₐ) → Valid (stringer W' K n q' l Kₐ) → W ⊑ W' → q' ⊑ q →
+    permitted (stringer W K n q l Kₐ) ≤ permitted (stringer W' K n q' l Kₐ)
+unfolding stringer
+stringer-mono K n l Kₐ v v' hW hq =
+    permitted-mono _ _ v v' refl (·-mono (·-mono ⊑-refl hW) ⊑-refl) (·-mono (·-mono ⊑-refl hq) ⊑-refl)
+
+pub cross-beam-mono : (K n l x : Fraction) {W W' q q' : Fraction} → Valid (crossBeam W K n q l x) → Valid (crossBeam W' K n q' l x) → W ⊑ W' → q' ⊑ q →
+    permitted (crossBeam W K n q l x) ≤ permitted (crossBeam W' K n q' l x)
+unfolding crossBeam
+cross-beam-mono K n l x v v' hW hq =
+    permitted-mono _ _ v v' refl (·-mono (·-mono ⊑-refl hW) ⊑-refl) (·-mono (·-mono ⊑-refl hq) ⊑-refl)
+
+pub chord-mono : (h K n l x Kₐ : Fraction) {F F' q q' : Fraction} → Valid (chord h F K n q l x Kₐ) → Valid (chord h F' K n q' l x Kₐ) → F ⊑ F' → q' ⊑ q →
+    permitted (chord h F K n q l x Kₐ) ≤ permitted (chord h F' K n q' l x Kₐ)
+unfolding chord
+chord-mono h K n l x Kₐ v v' hF hq =
+    permitted-mono _ _ v v' refl (·-mono (·-mono ⊑-refl hF) ⊑-refl) (·-mono (·-mono (·-mono ⊑-refl hq) ⊑-refl) ⊑-refl)
+
+pub joint-mono : (n μ l x Kₐ : Fraction) {front front' q q' : Fraction} → Valid (joint front n q μ l x Kₐ) → Valid (joint front' n q' μ l x Kₐ) → front ⊑ front' → q' ⊑ q →
+    permitted (joint front n q μ l x Kₐ) ≤ permitted (joint front' n q' μ l x Kₐ)
+unfolding joint
+joint-mono n μ l x Kₐ v v' hf hq =
+    permitted-mono _ _ v v' refl hf (·-mono (·-mono (·-mono (·-mono ⊑-refl hq) ⊑-refl) ⊑-refl) ⊑-refl)
+
+-- equal fractions for the section, or in front of a joint, give the same load
+pub stringer-same : (K n q l Kₐ : Fraction) {W W' : Fraction} → Valid (stringer W K n q l Kₐ) → Valid (stringer W' K n q l Kₐ) → W ≐ W' →
+    permitted (stringer W K n q l Kₐ) ≡ permitted (stringer W' K n q l Kₐ)
+stringer-same K n q l Kₐ v v' e =
+    le-antisymm (stringer-mono K n l Kₐ v v' (≐-⊑ e) ⊑-refl) (stringer-mono K n l Kₐ v' v (≐-⊒ e) ⊑-refl)
+
+pub cross-beam-same : (K n q l x : Fraction) {W W' : Fraction} → Valid (crossBeam W K n q l x) → Valid (crossBeam W' K n q l x) → W ≐ W' →
+    permitted (crossBeam W K n q l x) ≡ permitted (crossBeam W' K n q l x)
+cross-beam-same K n q l x v v' e =
+    le-antisymm (cross-beam-mono K n l x v v' (≐-⊑ e) ⊑-refl) (cross-beam-mono K n l x v' v (≐-⊒ e) ⊑-refl)
+
+pub joint-same : (n q μ l x Kₐ : Fraction) {front front' : Fraction} → Valid (joint front n q μ l x Kₐ) → Valid (joint front' n q μ l x Kₐ) → front ≐ front' →
+    permitted (joint front n q μ l x Kₐ) ≡ permitted (joint front' n q μ l x Kₐ)
+joint-same n q μ l x Kₐ v v' e =
+    le-antisymm (joint-mono n μ l x Kₐ v v' (≐-⊑ e) ⊑-refl) (joint-mono n μ l x Kₐ v' v (≐-⊒ e) ⊑-refl)

@@ -1,0 +1,41 @@
+-- `member::formula::distributed` meets its contract: a quotient by n (2d − e), and then by m, is the quotient by their product.
+-- Assumes nothing.
+use Prim.Native.Nat.{_*_, _/_, _≤_}
+use mathlib.Core.Path.{_≡_, ap, _∙_}
+use native.Mathlib.Nat.{div-div-eq-div-mul}
+use native.Mathlib.Omega.{arith}
+use Rattle.member.proofs.Divisors.{Divisor, divisor}
+use borrow.Author.Needs.{needs}
+use Rattle.member.proofs.formula.distributed.Statement.{statement}
+use Rattle.member.proofs.formula.distributed.Tie as tie
+
+lesser-requires : tie.Need-lesser-requires
+lesser-requires c κs = search needs
+
+mul-k : tie.Need-mul-k
+mul-k c = search needs
+
+sub-quotient : tie.Need-sub-quotient
+sub-quotient c = search needs
+
+spread : (c : tie.After-struct-known) → Divisor (c .before .before .args .n) (c .before .before .args .d .0) (c .before .lesser .result)
+spread c = divisor _ _ _ (omega arith) (omega arith) (omega arith) (omega arith) (omega (arith, c .before .lesser .ensures))
+
+mul-quotient : tie.Need-mul-quotient
+mul-quotient c = omega (arith, spread c)
+
+quotient-requires : tie.Need-quotient-requires
+quotient-requires c κs = (spread c .above-0, spread c .at-least, spread c .fits)
+
+div-t11 : tie.Need-div-t11
+div-t11 c = search needs
+
+returns : tie.Need-returns
+returns c =
+    let a = c .before .before .before .args in
+    rw (c .quotient .ensures, c .before .before .lesser .ensures) (div-div-eq-div-mul _ _ _)
+
+pub distributed-spec : {M : Type 1} → statement M
+distributed-spec =
+    tie.close
+    (tie.spec lesser-requires mul-k sub-quotient mul-quotient quotient-requires div-t11 returns)

@@ -1,0 +1,119 @@
+-- What the files may hold: the ranges, the fields that are used, the sections that suit a kind. Document 01, 'Net
+-- section' (the table of codes) and 'Files'.
+use Prim.Native.Nat.{ℕ, _-_, _≤_, _<_}
+use mathlib.Core.Path.{_≡_}
+use mathlib.Core.Bool.{Bool, true, false, not, _&&_, _||_}
+use mathlib.Core.List.{List, [], _∷_, _++_}
+use lib.ListN.{getD}
+use lib.Dec.{eqb, leb}
+use Rattle.section.specs.Choose.{choose}
+use Rattle.member.specs.Fields.{KIND, SPECIES, SPAN, SPACING, DISTANCE, HEIGHT, CODE, S3, S4, S5, S6, MU-A, MU-B, FIELDS, MOST-AXLES, field}
+use Rattle.member.specs.declared.record.Member.{Member}
+use Rattle.member.specs.declared.record.Vehicle.{Vehicle}
+
+infix 80 _‥_
+-- a range of whole numbers, both ends included
+pub record Range : Type 0 where
+  pub low : ℕ
+  pub high : ℕ
+
+abbrev pub _‥_ : ℕ → ℕ → Range
+a ‥ b = record { low = a; high = b }
+
+abbrev pub In : Range → ℕ → Type 0
+In r n = (r .low ≤ n) × (n ≤ r .high)
+
+-- "Section code and its fields s1 to s6", each with its range
+unfoldable pub sectionRanges : ℕ → List Range
+sectionRanges code =
+    choose (eqb code 1) (13 ‥ 39 ∷ 0 ‥ 60 ∷ 1 ‥ 3 ∷ [])
+    (choose (eqb code 2) (1 ‥ 60 ∷ 1 ‥ 60 ∷ 0 ‥ 60 ∷ 0 ‥ 60 ∷ 1 ‥ 40 ∷ 0 ‥ 10000 ∷ [])
+    (choose (eqb code 3) (1 ‥ 3 ∷ 1 ‥ 60 ∷ 1 ‥ 60 ∷ 1 ‥ 60 ∷ 0 ‥ 60 ∷ 1 ‥ 200 ∷ [])
+    (choose (eqb code 4) (1 ‥ 10000 ∷ 0 ‥ 10000 ∷ []) [])))
+
+unfoldable pub sectionRange : (code s : ℕ) → Range
+sectionRange code s = getD (sectionRanges code) s (0 ‥ 0)
+
+-- "In bending (kinds 1 and 2)"
+unfoldable pub bending : ℕ → Bool
+bending kind = leb kind 2
+
+-- which section codes suit a kind: the column 'section' of the table of permitted loads
+unfoldable pub suits : ℕ → ℕ → Bool
+suits kind code =
+    choose (bending kind) (eqb code 1 || eqb code 2)
+    (choose (eqb kind 3) (eqb code 2)
+    (choose (eqb kind 4) (eqb code 3) (eqb code 4)))
+
+-- "Unused and therefore 0: kind 1 x, h, A, B; kind 2 d, h, A, B; kind 3 A, B; kind 6 species"
+unfoldable pub unusedByKind : ℕ → List ℕ
+unusedByKind kind =
+    choose (eqb kind 1) (DISTANCE ∷ HEIGHT ∷ MU-A ∷ MU-B ∷ [])
+    (choose (eqb kind 2) (SPACING ∷ HEIGHT ∷ MU-A ∷ MU-B ∷ [])
+    (choose (eqb kind 3) (MU-A ∷ MU-B ∷ [])
+    (choose (eqb kind 6) (SPECIES ∷ []) [])))
+
+-- "the section fields that a code lacks", and the lost area (s6 of code 2) in bending
+unfoldable pub unusedByCode : ℕ → ℕ → List ℕ
+unusedByCode kind code =
+    choose (eqb code 1) (S4 ∷ S5 ∷ S6 ∷ [])
+    (choose (eqb code 2) (choose (bending kind) (S6 ∷ []) [])
+    (choose (eqb code 4) (S3 ∷ S4 ∷ S5 ∷ S6 ∷ []) []))
+
+abbrev pub holds : ℕ → List ℕ → Bool
+holds n [] = false
+holds n (x ∷ xs) = eqb n x || holds n xs
+
+-- a record of this kind and code uses the field
+unfoldable pub used : (kind code f : ℕ) → Bool
+used kind code f = not (holds f (unusedByKind kind)) && not (holds f (unusedByCode kind code))
+
+-- "x 1..l−1 (kind 2: 10..1000)"
+abbrev pub distanceRange : (kind l : ℕ) → Range
+distanceRange kind l = choose (eqb kind 2) (10 ‥ 1000) (1 ‥ (l - 1))
+
+-- "Ranges: l 100..5000, d 10..1000, x 1..l−1 (kind 2: 10..1000), h 10..500, q 0..10000, A and B 1..1000", with the kinds,
+-- the species and the codes, in the order of the record
+unfoldable pub ranges : (kind code l : ℕ) → List Range
+ranges kind code l =
+    1 ‥ 6 ∷ 1 ‥ 8 ∷ 100 ‥ 5000 ∷ 10 ‥ 1000 ∷ distanceRange kind l ∷ 10 ‥ 500 ∷ 0 ‥ 10000 ∷ 1 ‥ 4 ∷
+    sectionRange code 0 ∷ sectionRange code 1 ∷ sectionRange code 2 ∷ sectionRange code 3 ∷ sectionRange code 4 ∷
+    sectionRange code 5 ∷ 1 ‥ 1000 ∷ 1 ‥ 1000 ∷ []
+
+-- the range of a field
+unfoldable pub rangeOf : (kind code l f : ℕ) → Range
+rangeOf kind code l f = getD (ranges kind code l) f (0 ‥ 0)
+
+-- What a member's record may hold, with no order of tests in it.
+pub record AllowedMember (m : Member) : Type 0 where
+  pub kind : In (1 ‥ 6) (field m KIND)
+  pub section : suits (field m KIND) (field m CODE) ≡ true
+  pub unused : (f : ℕ) → f < FIELDS → used (field m KIND) (field m CODE) f ≡ false → field m f ≡ 0
+  pub range : (f : ℕ) → f < FIELDS → used (field m KIND) (field m CODE) f ≡ true → In (rangeOf (field m KIND) (field m CODE) (field m SPAN) f) (field m f)
+  -- "A at most B"
+  pub ordered : field m MU-A ≤ field m MU-B
+
+-- "class 0 (lorries), .. class 1 (wheeled tractors, heavy trailers)"
+abbrev pub classRange : Range
+classRange = 0 ‥ 1
+
+-- "u16 track 100..300"
+abbrev pub trackRange : Range
+trackRange = 100 ‥ 300
+
+-- "u16 weight 1..60000"
+abbrev pub weightRange : Range
+weightRange = 1 ‥ 60000
+
+-- "u16 distance from the axle in front, 0 for the first, 1..2000 after"
+abbrev pub laterRange : Range
+laterRange = 1 ‥ 2000
+
+-- What a vehicle may be: "u8 class, u16 track, u8 axles 1..16, then per axle" weight and distance.
+pub record AllowedVehicle (v : Vehicle) : Type 0 where
+  pub class : In classRange (v .class)
+  pub track : In trackRange (v .track)
+  pub axles : In (1 ‥ MOST-AXLES) (v .axles)
+  pub weight : (i : ℕ) → i < v .axles → In weightRange (getD (v .weights) i 0)
+  pub first : getD (v .distances) 0 0 ≡ 0
+  pub distance : (i : ℕ) → 0 < i → i < v .axles → In laterRange (getD (v .distances) i 0)

@@ -1,0 +1,6 @@
+pub mod Fields
+pub mod Format
+pub mod Formula
+pub mod PermittedLoad
+pub mod Sizes
+pub mod Wear

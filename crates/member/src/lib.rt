@@ -1,0 +1,4 @@
+// A member's record and what it may carry; a survey and a vehicle as their files hold them.
+mod formula;
+pub mod permitted;
+pub mod record;

@@ -1,0 +1,211 @@
+// The permitted load of a member, from its record, the vehicle's class and its track.
+ghost use mathlib.Core.Path.{_≡_};
+ghost use Prim.Native.Nat.{_*_, _≤_, _<_};
+ghost use Rattle.section.specs.Fraction.{over, _≐_};
+ghost use Rattle.section.specs.Species.{bendingTenths, shearTenths};
+ghost use Rattle.member.specs.Fields.{KIND, SPECIES, CODE, MU-B, field};
+ghost use Rattle.member.specs.Format.{AllowedMember};
+ghost use Rattle.member.specs.PermittedLoad.{loadFactorTenths, sectionModulus, netArea, capacity, jointFront, permittedLoad};
+use crate::formula::chord;
+use crate::formula::cross_beam;
+use crate::formula::dowelled;
+use crate::formula::joint;
+use crate::formula::keyed;
+use crate::formula::plates;
+use crate::formula::stringer;
+use crate::record::*;
+use section::Cm;
+use section::KgfPerM;
+use section::dowel::dowel_capacity_hundredths;
+use section::log::tiered_modulus;
+use section::sawn::area_left;
+use section::sawn::sawn_area;
+use section::sawn::sawn_modulus_sixths;
+use section::species::bending_factor;
+use section::species::shear_factor;
+
+// The load factor n, in tenths.
+fn load_factor(class: u8) -> u64
+    ensures is { λ r. ⌜ r ≡ loadFactorTenths class ⌝ }
+    ensures range { λ r. ⌜ (11 ≤ r) × (r ≤ 14) ⌝ }
+{
+    if class == 0 { 14 } else { 11 }
+}
+
+// The section modulus of a log or a sawn beam in bending, in sixths of a cm³.
+fn modulus_sixths(m: Member) -> u64
+    requires { ⌜ AllowedMember m × (field m KIND ≤ 2) ⌝ }
+    ensures is { λ r. ⌜ over r 6 ≐ sectionModulus m ⌝ }
+    ensures cap { λ r. ⌜ r ≤ 8640000 ⌝ }
+{
+    if m.number(CODE) == 1 {
+        return 6 * tiered_modulus(m.length(S1), m.length(S2), m.number(S3));
+    }
+    sawn_modulus_sixths(
+        m.length(S1),
+        m.length(S2),
+        m.length(S3),
+        m.length(S4),
+        m.number(S5),
+    )
+}
+
+// The area of a chord, in cm².
+fn chord_area(m: Member) -> u64
+    requires { ⌜ AllowedMember m × (field m KIND ≡ 3) ⌝ }
+    ensures is { λ r. ⌜ r ≡ netArea m ⌝ }
+    ensures cap { λ r. ⌜ r ≤ 144000 ⌝ }
+{
+    sawn_area(
+        m.length(S1),
+        m.length(S2),
+        m.length(S3),
+        m.length(S4),
+        m.number(S5),
+        m.number(S6),
+    )
+}
+
+// The area of a keyed joint or of steel plates, in cm².
+fn joint_area(m: Member) -> u64
+    requires { ⌜ AllowedMember m × (5 ≤ field m KIND) ⌝ }
+    ensures is { λ r. ⌜ r ≡ netArea m ⌝ }
+    ensures cap { λ r. ⌜ r ≤ 10000 ⌝ }
+{
+    area_left(m.number(S1), m.number(S2))
+}
+
+// What one cut of a joint's dowels carries, in hundredths of a kgf.
+fn capacity_hundredths(m: Member) -> u64
+    requires { ⌜ AllowedMember m × (field m KIND ≡ 4) ⌝ }
+    ensures is { λ r. ⌜ over r 100 ≐ capacity m ⌝ }
+    ensures cap { λ r. ⌜ r ≤ 1332000 ⌝ }
+{
+    dowel_capacity_hundredths(
+        m.number(S1),
+        m.number(S2),
+        m.length(S3),
+        m.length(S4),
+        m.length(S5),
+    )
+}
+
+// The factor K of a member's species, in tenths.
+fn bending(m: Member) -> u64
+    requires { ⌜ (1 ≤ field m SPECIES) × (field m SPECIES ≤ 8) ⌝ }
+    ensures is { λ r. ⌜ r ≡ bendingTenths (field m SPECIES) ⌝ }
+    ensures cap { λ r. ⌜ r ≤ 16 ⌝ }
+{
+    bending_factor(m.number(SPECIES) as usize)
+}
+
+// The factor S of a member's species, in tenths.
+fn shear(m: Member) -> u64
+    requires { ⌜ (1 ≤ field m SPECIES) × (field m SPECIES ≤ 8) ⌝ }
+    ensures is { λ r. ⌜ r ≡ shearTenths (field m SPECIES) ⌝ }
+    ensures cap { λ r. ⌜ r ≤ 16 ⌝ }
+{
+    shear_factor(m.number(SPECIES) as usize)
+}
+
+// What stands in front of a joint's formula, times 1000 · B.
+fn joint_front(m: Member) -> u64
+    requires { ⌜ AllowedMember m × (4 ≤ field m KIND) ⌝ }
+    ensures { λ r. ⌜ over r (1000 * field m MU-B) ≐ jointFront m ⌝ }
+{
+    let kind = m.number(KIND);
+    let h = m.length(HEIGHT);
+    let b = m.number(MU_B);
+    if kind == 4 {
+        return dowelled(h, capacity_hundredths(m), bending(m), m.number(S6), b);
+    }
+    if kind == 5 {
+        return keyed(h, joint_area(m), shear(m), b);
+    }
+    plates(h, joint_area(m), b)
+}
+
+fn stringer_load(m: Member, class: u8, track: Cm) -> KgfPerM
+    requires { ⌜ AllowedMember m × (field m KIND ≡ 1) ⌝ }
+    ensures { λ r. ⌜ r .0 ≡ permittedLoad m class (track .0) ⌝ }
+{
+    let q = KgfPerM(m.number(DEAD_LOAD));
+    stringer(
+        modulus_sixths(m),
+        bending(m),
+        load_factor(class),
+        q,
+        m.length(SPAN),
+        m.length(SPACING),
+        track,
+    )
+}
+
+fn cross_beam_load(m: Member, class: u8, track: Cm) -> KgfPerM
+    requires { ⌜ AllowedMember m × (field m KIND ≡ 2) ⌝ }
+    ensures { λ r. ⌜ r .0 ≡ permittedLoad m class (track .0) ⌝ }
+{
+    let q = KgfPerM(m.number(DEAD_LOAD));
+    cross_beam(
+        modulus_sixths(m),
+        bending(m),
+        load_factor(class),
+        q,
+        m.length(SPAN),
+        m.length(DISTANCE),
+    )
+}
+
+fn chord_load(m: Member, class: u8, track: Cm) -> KgfPerM
+    requires { ⌜ AllowedMember m × (field m KIND ≡ 3) ⌝ }
+    ensures { λ r. ⌜ r .0 ≡ permittedLoad m class (track .0) ⌝ }
+{
+    let q = KgfPerM(m.number(DEAD_LOAD));
+    chord(
+        m.length(HEIGHT),
+        chord_area(m),
+        bending(m),
+        load_factor(class),
+        q,
+        m.length(SPAN),
+        m.length(DISTANCE),
+        m.length(SPACING),
+        track,
+    )
+}
+
+fn joint_load(m: Member, class: u8, track: Cm) -> KgfPerM
+    requires { ⌜ AllowedMember m × (4 ≤ field m KIND) ⌝ }
+    ensures { λ r. ⌜ r .0 ≡ permittedLoad m class (track .0) ⌝ }
+{
+    let q = KgfPerM(m.number(DEAD_LOAD));
+    joint(
+        joint_front(m),
+        load_factor(class),
+        q,
+        m.number(MU_A),
+        m.number(MU_B),
+        m.length(SPAN),
+        m.length(DISTANCE),
+        m.length(SPACING),
+        track,
+    )
+}
+
+// The permitted load of a member for a vehicle of this class and track.
+pub fn permitted_load(m: Member, class: u8, track: Cm) -> KgfPerM
+    requires { ⌜ AllowedMember m ⌝ }
+    ensures { λ r. ⌜ r .0 ≡ permittedLoad m class (track .0) ⌝ }
+{
+    let kind = m.number(KIND);
+    if kind == 1 {
+        return stringer_load(m, class, track);
+    }
+    if kind == 2 {
+        return cross_beam_load(m, class, track);
+    }
+    if kind == 3 {
+        return chord_load(m, class, track);
+    }
+    joint_load(m, class, track)
+}
