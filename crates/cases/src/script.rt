@@ -1,0 +1,84 @@
+// A script is a row of steps. A step is a letter and a number, low byte first:
+//   T n   a title of the n bytes that follow        N 0   a new session
+//   S n   load a survey of the n bytes that follow  V n   load a vehicle of the n bytes that follow
+//   R p   rate the place p                          J n   judge with a list of n entries
+use crate::calls;
+use crate::print;
+use session::Session;
+ghost use Prim.Native.Nat.{_+_, _≤_, _<_};
+ghost use lib.ListN.{length};
+ghost use Rattle.session.specs.Calls.{Sound};
+
+const HEAD: usize = 3;
+
+struct Step {
+    letter: u8,
+    number: usize,
+}
+
+fn wide(x: u8) -> usize
+    ensures { λ r. ⌜ r < 256 ⌝ }
+{
+    x as usize
+}
+
+fn step_at(script: &[u8], at: usize) -> Step
+    requires { ⌜ at + 3 ≤ length (now script) ⌝ }
+{
+    let low = wide(script[at + 1]);
+    let high = wide(script[at + 2]);
+    Step {
+        letter: script[at],
+        number: low + 256 * high,
+    }
+}
+
+// Where the bytes of a step end that start at `from`; a cut script ends them.
+fn end_of(step: Step, from: usize, script: &[u8]) -> usize
+    requires { ⌜ from ≤ length (now script) ⌝ }
+    ensures { λ r. ⌜ (from ≤ r) × (r ≤ length (now (script .entry))) ⌝ }
+{
+    let letter = step.letter;
+    let number = step.number;
+    match letter {
+        b'T' | b'S' | b'V' => {
+            if number <= script.len() - from {
+                from + number
+            } else {
+                script.len()
+            }
+        }
+        _ => from,
+    }
+}
+
+fn run_step(session: Session, step: Step, bytes: &[u8]) -> Session
+    requires { ⌜ Sound session ⌝ }
+    ensures { λ r. ⌜ Sound r ⌝ }
+{
+    let letter = step.letter;
+    let number = step.number;
+    match letter {
+        b'N' => calls::start(),
+        b'S' => calls::load_survey(session, bytes),
+        b'V' => calls::load_vehicle(session, bytes),
+        b'R' => calls::rate(session, number as u64),
+        b'J' => calls::judge(session, number),
+        _ => {
+            print::line(bytes);
+            session
+        }
+    }
+}
+
+pub fn run(script: &[u8]) {
+    let mut session = Session::new();
+    let mut at: usize = 0;
+    while HEAD <= script.len() - at {
+        let step = step_at(script, at);
+        let from = at + HEAD;
+        let end = end_of(step, from, script);
+        session = run_step(session, step, &script[from..end]);
+        at = end;
+    }
+}

@@ -1,0 +1,68 @@
+//! Records of every kind and section with usual numbers, and their files.
+
+use reference::generate::{survey_bytes, vehicle_bytes, VehicleWords};
+use reference::layout::*;
+
+/// Every kind with each of its sections.
+pub fn kinds() -> impl Iterator<Item = (u16, u16)> {
+    (1..=6).flat_map(|kind| sections(kind).iter().map(move |&code| (kind, code)))
+}
+
+fn usual_number(code: u16, word: usize) -> u16 {
+    match (word, code) {
+        (SPAN, _) => 600,
+        (SPACING, _) => 150,
+        (FROM_SUPPORT | DEAD_LOAD, _) => 200,
+        (TRUSS_HEIGHT, _) => 150,
+        (PART_A, _) => 3,
+        (WHOLE_B, _) => 4,
+        (_, 1) => [30, 1, 2][word - S1],
+        (_, 2) => [20, 25, 1, 2, 4, 50][word - S1],
+        (_, 3) => [1, 16, 10, 6, 1, 20][word - S1],
+        _ => [400, 20][word - S1],
+    }
+}
+
+/// A record of this kind and section with usual numbers.
+pub fn usual(kind: u16, code: u16) -> Words {
+    let mut words: Words = [0; 16];
+    [words[KIND], words[SECTION], words[SPECIES]] = [kind, code, u16::from(has_species(kind))];
+    for &(word, _, _) in used(kind, code) {
+        words[word] = usual_number(code, word);
+    }
+    words
+}
+
+/// The record with some words changed.
+pub fn with(mut words: Words, changes: &[(usize, u16)]) -> Words {
+    changes.iter().for_each(|&(word, value)| words[word] = value);
+    words
+}
+
+/// Three sound members of other kinds, and a full survey of all kinds in turn.
+pub fn three() -> Vec<Words> {
+    vec![usual(1, 1), usual(4, 3), usual(6, 4)]
+}
+
+pub fn full() -> Vec<Words> {
+    let all: Vec<Words> = kinds().map(|(kind, code)| usual(kind, code)).collect();
+    (0..64).map(|i| all[i % all.len()]).collect()
+}
+
+/// Class 0, track 190, these axles: weight and distance from the axle in front.
+pub fn lorry(axles: &[[u16; 2]]) -> VehicleWords {
+    VehicleWords { class: 0, track: 190, axles: axles.to_vec() }
+}
+
+/// The vehicle of case L.
+pub fn case_l() -> VehicleWords {
+    lorry(&[[1500, 0], [3000, 370]])
+}
+
+pub fn survey_of(members: &[Words]) -> Vec<u8> {
+    survey_bytes(members)
+}
+
+pub fn vehicle_of(vehicle: &VehicleWords) -> Vec<u8> {
+    vehicle_bytes(vehicle)
+}

@@ -1,0 +1,136 @@
+//! A script of calls on a session, with the answers by document 01.
+
+use reference::{judge, reader, Member, Rated, Refused, Vehicle};
+use std::fmt::Write;
+
+/// Entry i of a lent list holds KNOWN + i.
+const KNOWN: u64 = 1_000_000;
+
+/// The steps so far, what they print, and the session: the files that were taken.
+#[derive(Default)]
+pub struct Script {
+    pub bytes: Vec<u8>,
+    pub text: String,
+    survey: Option<(Vec<u8>, Vec<Member>)>,
+    vehicle: Option<(Vec<u8>, Vehicle)>,
+}
+
+fn verdict(passes: bool) -> &'static str {
+    if passes {
+        "pass"
+    } else {
+        "refuse"
+    }
+}
+
+fn refused(number: u64, place: u64) -> String {
+    format!("refused {number} at {place}")
+}
+
+fn taken<T>(read: &Result<T, Refused>) -> String {
+    match read {
+        Ok(_) => "taken".to_string(),
+        Err(fault) => refused(fault.number, fault.place),
+    }
+}
+
+impl Script {
+    fn step(&mut self, letter: u8, number: usize, body: &[u8]) {
+        let number = u16::try_from(number).expect("a number of two bytes");
+        self.bytes.push(letter);
+        self.bytes.extend(number.to_le_bytes());
+        self.bytes.extend(body);
+    }
+
+    fn print(&mut self, line: &str) {
+        writeln!(self.text, "{line}").unwrap();
+    }
+
+    /// A line of its own in the output.
+    pub fn title(&mut self, title: &str) {
+        self.step(b'T', title.len(), title.as_bytes());
+        self.print(title);
+    }
+
+    /// A new session.
+    pub fn start(&mut self) {
+        self.step(b'N', 0, &[]);
+        self.survey = None;
+        self.vehicle = None;
+        self.print("new");
+    }
+
+    /// Loads a survey: one that is taken replaces the survey, and nothing else changes.
+    pub fn survey(&mut self, bytes: &[u8]) {
+        self.step(b'S', bytes.len(), bytes);
+        let read = reader::survey(bytes);
+        self.print(&format!("survey {}", taken(&read)));
+        if let Ok(members) = read {
+            self.survey = Some((bytes.to_vec(), members));
+        }
+    }
+
+    /// Loads a vehicle, in the same way.
+    pub fn vehicle(&mut self, bytes: &[u8]) {
+        self.step(b'V', bytes.len(), bytes);
+        let read = reader::vehicle(bytes);
+        self.print(&format!("vehicle {}", taken(&read)));
+        if let Ok(vehicle) = read {
+            self.vehicle = Some((bytes.to_vec(), vehicle));
+        }
+    }
+
+    fn rated(&self, place: usize) -> Result<Rated, u64> {
+        let (_, members) = self.survey.as_ref().ok_or(11u64)?;
+        let (_, vehicle) = self.vehicle.as_ref().ok_or(12u64)?;
+        let member = place.checked_sub(1).and_then(|i| members.get(i)).ok_or(13u64)?;
+        Ok(judge::rate(member, vehicle))
+    }
+
+    /// Rates the member at a place.
+    pub fn rate(&mut self, place: usize) {
+        self.step(b'R', place, &[]);
+        let answer = match self.rated(place) {
+            Ok(rated) => {
+                let (permitted, vehicle) = (rated.permitted, rated.vehicle);
+                format!("{permitted} {vehicle} {}", verdict(rated.passes()))
+            }
+            Err(number) => refused(number, 0),
+        };
+        self.print(&format!("rate {place} {answer}"));
+    }
+
+    fn judged(&self, entries: usize) -> Result<reference::Judged, u64> {
+        let (survey, members) = self.survey.as_ref().ok_or(11u64)?;
+        let (vehicle, _) = self.vehicle.as_ref().ok_or(12u64)?;
+        if entries < 2 * members.len() {
+            return Err(14);
+        }
+        Ok(judge(survey, vehicle).expect("both files were taken"))
+    }
+
+    /// Judges with a list of so many entries; the whole list is printed as it is then.
+    pub fn judge(&mut self, entries: usize) {
+        self.step(b'J', entries, &[]);
+        let mut list: Vec<u64> = (KNOWN..).take(entries).collect();
+        let answer = match self.judged(entries) {
+            Ok(judged) => {
+                let loads =
+                    judged.members.iter().flat_map(|rated| [rated.permitted, rated.vehicle]);
+                list.iter_mut().zip(loads).for_each(|(entry, load)| *entry = load);
+                let (figure, governing) = (judged.figure, judged.governing);
+                format!("{figure} {governing} {}", verdict(judged.passes))
+            }
+            Err(number) => refused(number, 0),
+        };
+        self.print(&format!("judge {answer}"));
+        let list: String = list.iter().map(|entry| format!(" {entry}")).collect();
+        self.print(&format!("list{list}"));
+    }
+
+    /// Rates every place of a survey of so many members, and judges with a list that just holds it.
+    pub fn all(&mut self, count: usize) {
+        (1..=count).for_each(|place| self.rate(place));
+        self.judge(2 * count);
+    }
+}
