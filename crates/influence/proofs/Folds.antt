@@ -29,6 +29,16 @@ pub total-same : (f g : ℕ → ℕ) (n : ℕ) → ((i : ℕ) → i < n → f i 
 total-same f g n h =
     le-antisymm (total-le f g n (λ i l. le-of-eq (h i l))) (total-le g f n (λ i l. le-of-eq (sym (h i l))))
 
+-- terms of 0 at the end add nothing
+pub total-rest : (f : ℕ → ℕ) (i n : ℕ) → i ≤ n → ((k : ℕ) → i ≤ k → k < n → f k ≡ 0) → total f n ≡ total f i
+unfolding total
+total-rest f i zero l h = let e : i ≡ 0 = omega arith in rw e refl
+total-rest f i (suc n) l h = go (decLe i n) (λ k. total-rest f i n k (λ j p q. h j p (omega arith)))
+  where
+    go : Dec (i ≤ n) → (i ≤ n → total f n ≡ total f i) → total f n + f n ≡ total f i
+    go (yes k) more = omega (arith, more k, h n k (omega arith))
+    go (no k) more = let e : i ≡ suc n = omega arith in rw e refl
+
 pub total-plus : (f g : ℕ → ℕ) (n : ℕ) → total (λ i. f i + g i) n ≡ total f n + total g n
 unfolding total
 total-plus f g zero = refl

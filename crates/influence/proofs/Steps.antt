@@ -15,7 +15,7 @@ use Rattle.section.specs.Fraction.{over, whole, _·_, _÷_}
 use Rattle.influence.specs.Influence.{total, perMetre, weight, behind}
 use Rattle.influence.specs.Scaled.{top, scaledHeight, scaledSum, apexTop}
 use Rattle.influence.specs.Bounds.{Bounded}
-use Rattle.influence.proofs.Folds.{total-cap, of-top}
+use Rattle.influence.proofs.Folds.{total-cap, total-more, total-rest, of-top}
 use Rattle.influence.proofs.Apex.{rising-side, falling-side}
 use Rattle.influence.proofs.Scaled.{mirrored}
 
@@ -31,6 +31,10 @@ pub behind-passed : (ds : List ℕ) (i : ℕ) → behind ds i ≡ passed ds i + 
 unfolding behind total
 behind-passed ds i = refl
 
+pub behind-further : (ds : List ℕ) {i k : ℕ} → i ≤ k → behind ds i ≤ behind ds k
+unfolding behind
+behind-further ds l = total-more (λ j. 2 * getD ds j 0) (omega arith)
+
 -- one axle more
 pub sum-next :
     (U P : ℕ) (w b : ℕ → ℕ) (i u : ℕ) {s k h p : ℕ} →
@@ -38,6 +42,18 @@ pub sum-next :
     s + k * h ≡ scaledSum U P w b (i + 1) u
 unfolding scaledSum total
 sum-next U P w b i u e k h p = rw (add-one i, e, k, h, p) refl
+
+-- an axle that is not on the base yet stands at 0, and so do all behind it
+pub sum-rest :
+    (U P : ℕ) (w : ℕ → ℕ) (ds : List ℕ) (i n u : ℕ) → i ≤ n → u ≤ behind ds i →
+    scaledSum U P w (behind ds) n u ≡ scaledSum U P w (behind ds) i u
+unfolding scaledSum
+sum-rest U P w ds i n u l off = total-rest _ i n l λ k p q. nothing k (omega (arith, behind-further ds p))
+  where
+    nothing : (k : ℕ) → u ≤ behind ds k → w k * scaledHeight U P (u - behind ds k) ≡ 0
+    nothing k h =
+        let e : u - behind ds k ≡ 0 = omega arith in
+        rw (e, rising-side U P 0 (omega arith)) (omega arith)
 
 -- the top over the positions that put one of the first j axles over the apex, and one position more
 abbrev pub topOf : (U P : ℕ) (w b : ℕ → ℕ) (n j : ℕ) → ℕ

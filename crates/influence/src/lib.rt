@@ -92,6 +92,10 @@ fn sum_at(
     let mut i = 0;
     while i < axles {
         place = beyond(place, distance_of(distances, i));
+        // This axle and all behind it are not on the base yet.
+        if place.0 == 0 {
+            return Kgf(sum);
+        }
         sum += weight_of(weights, i).0 * scaled_height(base, apex, place);
         i += 1;
     }
@@ -122,6 +126,25 @@ fn apex_top(
     top
 }
 
+// The greatest from the other end, where the apex stands at `mirrored`: the same where the apex is in the middle.
+fn other_top(
+    base: HalfCm,
+    apex: HalfCm,
+    mirrored: HalfCm,
+    top: Kgf,
+    axles: usize,
+    weights: &[u32; 16],
+    distances: &[u16; 16],
+) -> Kgf
+    requires { ⌜ Bounded (base .0) (mirrored .0) axles (now weights) (now distances) × (top .0 ≡ apexTop (base .0) (apex .0) (weight (now weights)) (behind (now distances)) axles) ⌝ }
+    ensures { λ r. ⌜ r .0 ≡ apexTop (base .0) (mirrored .0) (weight (now (weights .entry))) (behind (now (distances .entry))) axles ⌝ }
+{
+    if mirrored.0 == apex.0 {
+        return top;
+    }
+    apex_top(base, mirrored, axles, weights, distances)
+}
+
 // The vehicle load's formula, rounded up once, of a sum that is scaled by apex × (base − apex). The sum is at most that of 16
 // axles of 200,000 kgf at a scaled height of 10,000 × 10,000.
 fn per_metre(base: HalfCm, apex: HalfCm, sum: Kgf) -> KgfPerM
@@ -147,6 +170,6 @@ pub fn vehicle_load(
     let other_end = base.0 - apex.0;
     let mirrored = HalfCm(other_end);
     let one_way = apex_top(base, apex, axles, &weights, &distances);
-    let other_way = apex_top(base, mirrored, axles, &weights, &distances);
+    let other_way = other_top(base, apex, mirrored, one_way, axles, &weights, &distances);
     per_metre(base, apex, heavier(one_way, other_way))
 }

@@ -2,13 +2,13 @@
 -- axle's less the distances passed.
 -- Assumes nothing.
 use Prim.Native.Nat.{_≤_, _+_, _*_, _-_}
-use mathlib.Core.Path.{_≡_, refl}
+use mathlib.Core.Path.{_≡_, refl, sym, _∙_}
 use native.Mathlib.Omega.{arith}
 use borrow.Author.Needs.{needs}
 use Rattle.influence.specs.Influence.{total, weight, behind}
 use Rattle.influence.specs.Scaled.{scaledSum}
 use Rattle.section.proofs.Products.{product-fits}
-use Rattle.influence.proofs.Steps.{passed, passed-next, behind-passed, sum-next, height-cap, sum-cap}
+use Rattle.influence.proofs.Steps.{passed, passed-next, behind-passed, sum-next, sum-rest, height-cap, sum-cap}
 use Rattle.influence.proofs.sum_at.Statement.{statement}
 use Rattle.influence.proofs.sum_at.Tie as tie
 
@@ -30,6 +30,16 @@ distance-of-requires c κs = (omega arith, c .before .before .pre .distance (c .
 beyond-requires : tie.Need-beyond-requires Inv-loop μ-loop
 beyond-requires c κs = search needs
 
+-- the axles from here on are not on the base yet, and add nothing
+returns : tie.Need-returns Inv-loop μ-loop
+returns c =
+    let at = c .before .before .before .before .before in
+    let args = at .before .args in
+    at .loop .inv .1 ∙
+    sym
+    (sum-rest _ _ (weight (args .weights .now)) (args .distances .now) (at .loop .i) (args .axles) (args .front .0) (omega arith)
+    (omega (arith, behind-passed (args .distances .now) (at .loop .i), c .before .before .beyond .ensures, c .before .before .before .distance-of .ensures, c .if1 .taken)))
+
 weight-of-requires : tie.Need-weight-of-requires Inv-loop μ-loop
 weight-of-requires c κs = omega arith
 
@@ -38,20 +48,20 @@ scaled-height-requires c κs = search needs
 
 mul-sum : tie.Need-mul-sum Inv-loop μ-loop
 mul-sum c =
-    let at = c .before .before .before .before .before .before in
+    let at = c .before .before .before .before .before .before .before .before in
     product-fits 200000 100000000 tt
     (omega (arith, at .before .pre .weight (at .loop .i) (omega arith)))
     (rw (c .before .scaled-height .ensures) (height-cap _ (omega arith) (omega arith)))
 
 -- the sum with one axle more, whose place is that of the front axle less all the distances to it
 sum-of :
-    (c : tie.After-struct-known Inv-loop μ-loop) →
-    let at = c .before .before .before .before .before .before in
+    (c : tie.After-struct-known2 Inv-loop μ-loop) →
+    let at = c .before .before .before .before .before .before .before .before in
     let args = at .before .args in
     at .loop .sum + c .before .before .weight-of .result .0 * c .before .scaled-height .result ≡
     scaledSum (args .base .0) (args .apex .0) (weight (args .weights .now)) (behind (args .distances .now)) (at .loop .i + 1) (args .front .0)
 sum-of c =
-    let at = c .before .before .before .before .before .before in
+    let at = c .before .before .before .before .before .before .before .before in
     let args = at .before .args in
     sum-next _ _ (weight (args .weights .now)) (behind (args .distances .now)) (at .loop .i) _
     (at .loop .inv .1) (c .before .before .weight-of .ensures) (c .before .scaled-height .ensures)
@@ -59,7 +69,7 @@ sum-of c =
 
 add-sum : tie.Need-add-sum Inv-loop μ-loop
 add-sum c =
-    let at = c .before .before .before .before .before .before in
+    let at = c .before .before .before .before .before .before .before .before in
     record { fits = omega (arith, sum-of c, sum-cap (at .before .pre) (at .loop .i + 1) (at .before .args .front .0) (omega arith)) }
 
 add-i : tie.Need-add-i Inv-loop μ-loop
@@ -70,11 +80,11 @@ loop-less c = search needs
 
 loop-again : tie.Need-loop-again Inv-loop μ-loop
 loop-again c =
-    let at = c .before .before .before .before .before .before in
+    let at = c .before .before .before .before .before .before .before .before in
     (omega arith, sum-of c, omega (arith, passed-next (at .before .args .distances .now) (at .loop .i)))
 
-returns : tie.Need-returns Inv-loop μ-loop
-returns c =
+returns-2 : tie.Need-returns-2 Inv-loop μ-loop
+returns-2 c =
     let ended : c .before .loop .i ≡ c .before .before .args .axles = omega arith in
     rw ended at (c .before .loop .inv .1)
 
@@ -87,6 +97,7 @@ sum-at-spec =
     loop-holds
     distance-of-requires
     beyond-requires
+    returns
     weight-of-requires
     scaled-height-requires
     mul-sum
@@ -94,4 +105,4 @@ sum-at-spec =
     add-i
     loop-less
     loop-again
-    returns)
+    returns-2)

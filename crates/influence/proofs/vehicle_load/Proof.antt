@@ -14,8 +14,9 @@ sub-other-end c = search needs
 apex-top-requires : tie.Need-apex-top-requires
 apex-top-requires c κs = search needs
 
-apex-top-requires-2 : tie.Need-apex-top-requires-2
-apex-top-requires-2 c κs = search needs
+other-top-requires : tie.Need-other-top-requires
+other-top-requires c κs =
+    (mirrored-bounded (c .before .before .before .before .before .before .before .pre), c .before .before .apex-top .ensures)
 
 heavier-requires : tie.Need-heavier-requires
 heavier-requires c κs = search needs
@@ -30,7 +31,7 @@ returns c =
     let start = c .before .before .before .before .before .before .before .before .before .before in
     load-from-tops (start .args .t4) (start .args .t5) (start .args .axles) (start .pre .triangle)
     (c .per-metre .ensures) (c .before .heavier .ensures) (c .before .before .before .before .before .apex-top .ensures)
-    (c .before .before .apex-top2 .ensures)
+    (c .before .before .other-top .ensures)
 
 pub vehicle-load-spec : {M : Type 1} → statement M
 vehicle-load-spec =
@@ -38,7 +39,7 @@ vehicle-load-spec =
     (tie.spec
     sub-other-end
     apex-top-requires
-    apex-top-requires-2
+    other-top-requires
     heavier-requires
     per-metre-requires
     returns)
