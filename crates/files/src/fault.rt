@@ -38,11 +38,10 @@ pub fn is_zeroed(m: Member, f: usize) -> bool
     requires { ⌜ f < FIELDS ⌝ }
     ensures { λ r. ⌜ r ≡ zeroed m f ⌝ }
 {
-    let kind = m.fields[KIND];
-    let code = m.fields[CODE];
-    let used = is_used(kind, code, f);
-    let zero = m.fields[f] == 0;
-    used | zero
+    if m.fields[f] == 0 {
+        return true;
+    }
+    is_used(m.fields[KIND], m.fields[CODE], f)
 }
 
 // The field is in its range where the record uses it.
@@ -53,8 +52,9 @@ pub fn is_within(m: Member, f: usize) -> bool
     let kind = m.fields[KIND];
     let code = m.fields[CODE];
     let span = m.fields[SPAN];
-    let unused = !is_used(kind, code, f);
     let range = limits_of(kind, code, span, f);
-    let ok = inside(range.low, range.high, m.fields[f]);
-    unused | ok
+    if inside(range.low, range.high, m.fields[f]) {
+        return true;
+    }
+    !is_used(kind, code, f)
 }

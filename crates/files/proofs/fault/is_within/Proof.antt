@@ -1,6 +1,12 @@
--- `is_within` meets its contract: use, range and the test of the range are the callees'.
-use borrow.Author.Needs.{needs}
+-- `is_within` meets its contract: a field in its range needs no more; any other has to be unused.
+-- Assumes nothing.
+use mathlib.Core.Path.{_≡_, ap}
+use mathlib.Core.Bool.{not, or-true, or-false}
+use Rattle.member.specs.Fields.{KIND, SPAN, CODE, field}
+use Rattle.member.specs.Format.{rangeOf}
+use Rattle.files.specs.Reading.{isIn}
 use Rattle.files.specs.SurveyFile.{within}
+use borrow.Author.Needs.{needs}
 use Rattle.files.proofs.fault.is_within.Statement.{statement}
 use Rattle.files.proofs.fault.is_within.Tie as tie
 
@@ -12,9 +18,6 @@ element-copy-out-code c = search needs
 
 element-copy-out-span : tie.Need-element-copy-out-span
 element-copy-out-span c = search needs
-
-is-used-requires : tie.Need-is-used-requires
-is-used-requires c κs = search needs
 
 limits-of-requires : tie.Need-limits-of-requires
 limits-of-requires c κs = search needs
@@ -28,9 +31,23 @@ element-copy-out-inside c = search needs
 inside-requires : tie.Need-inside-requires
 inside-requires c κs = search needs
 
+-- the test of the range, said of the range itself
+ranged :
+    (c : tie.After-inside) →
+    let m = c .before .before .before .before .before .before .args .t1 in
+    c .inside .result ≡ isIn (rangeOf (field m KIND) (field m CODE) (field m SPAN) (c .before .before .before .before .before .before .args .f)) (field m (c .before .before .before .before .before .before .args .f))
+ranged c = rw (c .before .before .limits-of .ensures .0, c .before .before .limits-of .ensures .1) at (c .inside .ensures)
+
 returns : tie.Need-returns
 unfolding within
-returns c = rw (c .before .before .before .is-used .ensures, c .inside .ensures, c .before .before .limits-of .ensures .0, c .before .before .limits-of .ensures .1)
+returns c = rw (← (ranged (c .before)), c .if1 .taken, or-true)
+
+is-used-requires : tie.Need-is-used-requires
+is-used-requires c κs = search needs
+
+returns-2 : tie.Need-returns-2
+unfolding within
+returns-2 c = rw (← (ranged (c .before .before)), c .before .if1 .left, or-false) (ap not (c .is-used .ensures))
 
 pub is-within-spec : {M : Type 1} → statement M
 is-within-spec =
@@ -39,9 +56,10 @@ is-within-spec =
     element-copy-out-kind
     element-copy-out-code
     element-copy-out-span
-    is-used-requires
     limits-of-requires
     mul-inside
     element-copy-out-inside
     inside-requires
-    returns)
+    returns
+    is-used-requires
+    returns-2)
