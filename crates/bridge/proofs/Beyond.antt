@@ -1,23 +1,21 @@
 -- Bytes beyond the longest survey and the longest vehicle change nothing. A vehicle file that is longer than any count byte can call
 -- for is refused by its header, and the header's tests look only at its first bytes and at the length being another.
 -- Assumes nothing.
-use Prim.Native.Nat.{ℕ, _+_, _-_, _*_, _≤_, _<_, min}
+use Prim.Native.Nat.{ℕ, _+_, _-_, _*_, _≤_, _<_}
 use mathlib.Core.Path.{_≡_, ap, sym, _∙_}
-use mathlib.Core.List.{List, [], _∷_, _++_}
+use mathlib.Core.List.{List, [], _∷_}
 use native.Mathlib.Decide.{decLe}
 use native.Mathlib.Omega.{arith}
-use lib.ListN.{length, take, drop, length-take, length-drop}
+use lib.ListN.{length, take, drop, length-take}
 use lib.Seq.{take-all, take-take, take-add, drop-at, length-take-le, getD-take, getD-drop}
 use borrow.Author.Tests.{le-leb, ne-eqb}
 use Rattle.member.specs.Format.{_‥_}
 use Rattle.member.specs.Fields.{MOST-AXLES}
-use Rattle.files.specs.Words.{byteAt, wordAt}
+use Rattle.files.specs.Words.{byteAt}
 use Rattle.files.specs.Reading.{_unless_, firstOf, isIn}
 use Rattle.files.specs.Header.{marked, headerFault}
 use Rattle.files.specs.SurveyFile.{countOf}
 use Rattle.files.specs.VehicleFile.{VEHICLE-HEADER, AXLE, axlesOf, axleFaults, blankVehicle, vehicleHeader, vehicleAnswer, readVehicle}
-use Rattle.files.specs.declared.Reading.the-variants.{Refused}
-use Rattle.files.specs.declared.Refusal.{Refusal}
 use Rattle.files.specs.declared.VehicleRead.{VehicleRead}
 use Rattle.files.proofs.Tests.{first-is}
 use Rattle.files.proofs.Faults.{refusal, head-first}

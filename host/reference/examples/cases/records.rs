@@ -1,6 +1,7 @@
 //! Records of every kind and section with usual numbers, and their files.
 
-use reference::generate::{survey_bytes, vehicle_bytes, VehicleWords};
+use reference::generate::VehicleWords;
+pub use reference::generate::{survey_bytes as survey_of, vehicle_bytes as vehicle_of};
 use reference::layout::*;
 
 /// Every kind with each of its sections.
@@ -39,11 +40,12 @@ pub fn with(mut words: Words, changes: &[(usize, u16)]) -> Words {
     words
 }
 
-/// Three sound members of other kinds, and a full survey of all kinds in turn.
+/// Three sound members of different kinds.
 pub fn three() -> Vec<Words> {
     vec![usual(1, 1), usual(4, 3), usual(6, 4)]
 }
 
+/// A full survey, all kinds in turn.
 pub fn full() -> Vec<Words> {
     let all: Vec<Words> = kinds().map(|(kind, code)| usual(kind, code)).collect();
     (0..64).map(|i| all[i % all.len()]).collect()
@@ -59,10 +61,9 @@ pub fn case_l() -> VehicleWords {
     lorry(&[[1500, 0], [3000, 370]])
 }
 
-pub fn survey_of(members: &[Words]) -> Vec<u8> {
-    survey_bytes(members)
-}
-
-pub fn vehicle_of(vehicle: &VehicleWords) -> Vec<u8> {
-    vehicle_bytes(vehicle)
+/// A file with one byte changed.
+pub fn with_byte(bytes: &[u8], at: usize, byte: u8) -> Vec<u8> {
+    let mut bytes = bytes.to_vec();
+    bytes[at] = byte;
+    bytes
 }

@@ -43,14 +43,10 @@ fn refused_surveys() -> Vec<Vec<u8>> {
         let [first, second, third] = [three()[0], three()[1], three()[2]];
         survey_of(&[first, with(second, changes), third])
     };
-    let mut marked = sound.clone();
-    marked[2] = b'V';
-    let mut counted = sound.clone();
-    counted[5] = 65;
     vec![
         sound[..sound.len() - 1].to_vec(),
-        marked,
-        counted,
+        with_byte(&sound, 2, b'V'),
+        with_byte(&sound, 5, 65),
         changed(&[(KIND, 7)]),
         changed(&[(SPECIES, 9)]),
         changed(&[(SECTION, 4)]),
@@ -61,11 +57,7 @@ fn refused_surveys() -> Vec<Vec<u8>> {
 
 fn refused_vehicles() -> Vec<Vec<u8>> {
     let sound = vehicle_of(&case_l());
-    let changed = |at: usize, byte: u8| {
-        let mut bytes = sound.clone();
-        bytes[at] = byte;
-        bytes
-    };
+    let changed = |at, byte| with_byte(&sound, at, byte);
     vec![sound[..8].to_vec(), changed(3, 2), changed(8, 17), changed(5, 2), changed(11, 1)]
 }
 

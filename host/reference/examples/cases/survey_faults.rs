@@ -4,13 +4,6 @@ use crate::records::*;
 use crate::script::Script;
 use reference::layout::*;
 
-/// A file with one byte changed.
-fn changed(bytes: &[u8], at: usize, byte: u8) -> Vec<u8> {
-    let mut bytes = bytes.to_vec();
-    bytes[at] = byte;
-    bytes
-}
-
 fn headers(script: &mut Script) {
     let sound = survey_of(&three());
     script.title("surveys cut short, and one byte too long");
@@ -20,18 +13,18 @@ fn headers(script: &mut Script) {
     script.survey(&[&sound[..], &[0]].concat());
     script.title("mark or version, before count and length");
     for at in 0..5 {
-        script.survey(&changed(&sound, at, sound[at] ^ 1));
-        script.survey(&changed(&changed(&sound, at, 0xff), 5, 0)[..6]);
+        script.survey(&with_byte(&sound, at, sound[at] ^ 1));
+        script.survey(&with_byte(&with_byte(&sound, at, 0xff), 5, 0)[..6]);
     }
     script.title("too short comes before the mark");
-    script.survey(&changed(&sound, 0, 0)[..5]);
+    script.survey(&with_byte(&sound, 0, 0)[..5]);
     script.title("count, before length");
     for count in [0, 65, 128, 255] {
-        script.survey(&changed(&sound, 5, count));
+        script.survey(&with_byte(&sound, 5, count));
     }
     script.title("counts that the length does not have, and 64 members");
     for count in [1, 2, 4, 64] {
-        script.survey(&changed(&sound, 5, count));
+        script.survey(&with_byte(&sound, 5, count));
     }
     script.survey(&survey_of(&full()));
     let long: Vec<Words> = full().into_iter().chain([usual(1, 1)]).collect();
@@ -102,7 +95,7 @@ fn order(turn: &mut Turn) {
     for from in 0..all.len() {
         turn.refuse("the first of its faults", with(sound, &all[from..]));
     }
-    turn.refuse("8 and 7, the 7 in an earlier word", with(sound, &[(SPAN, 9), (MU, 1)]));
+    turn.refuse("8 and 7, the 7 in an earlier word", with(sound, &[(SPAN, 9), (WHOLE_B, 1)]));
     turn.refuse("lost area in bending", with(sound, &[(S6, 1)]));
     turn.refuse("lost area in bending and a range", with(sound, &[(S6, 1), (S1, 0)]));
     let faults: Vec<Words> =
@@ -112,9 +105,6 @@ fn order(turn: &mut Turn) {
     turn.script.survey(&survey_of(&[sound, faults[1], faults[2]]));
     turn.script.survey(&survey_of(&[sound, sound, faults[2]]));
 }
-
-/// The last word of a record.
-const MU: usize = WHOLE_B;
 
 /// The largest survey, each number at its first, a middle and its last place.
 fn largest(script: &mut Script) {

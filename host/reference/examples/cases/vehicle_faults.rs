@@ -4,12 +4,6 @@ use crate::records::*;
 use crate::script::Script;
 use reference::generate::VehicleWords;
 
-fn changed(bytes: &[u8], at: usize, byte: u8) -> Vec<u8> {
-    let mut bytes = bytes.to_vec();
-    bytes[at] = byte;
-    bytes
-}
-
 fn headers(script: &mut Script) {
     let sound = vehicle_of(&case_l());
     script.title("vehicles cut short, and one byte too long");
@@ -19,21 +13,21 @@ fn headers(script: &mut Script) {
     script.vehicle(&[&sound[..], &[0]].concat());
     script.title("mark or version, before count and length");
     for at in 0..5 {
-        script.vehicle(&changed(&sound, at, sound[at] ^ 1));
-        script.vehicle(&changed(&changed(&sound, at, 0xff), 8, 0)[..9]);
+        script.vehicle(&with_byte(&sound, at, sound[at] ^ 1));
+        script.vehicle(&with_byte(&with_byte(&sound, at, 0xff), 8, 0)[..9]);
     }
     script.title("a survey is no vehicle");
     script.vehicle(&survey_of(&three()));
     script.title("count, before length");
     for count in [0, 17, 255] {
-        script.vehicle(&changed(&sound, 8, count));
+        script.vehicle(&with_byte(&sound, 8, count));
     }
     script.title("counts that the length does not have");
     for count in [1, 3, 16] {
-        script.vehicle(&changed(&sound, 8, count));
+        script.vehicle(&with_byte(&sound, 8, count));
     }
     script.title("length before class");
-    script.vehicle(&changed(&changed(&sound, 5, 2), 8, 3));
+    script.vehicle(&with_byte(&with_byte(&sound, 5, 2), 8, 3));
 }
 
 fn fronts(script: &mut Script) {

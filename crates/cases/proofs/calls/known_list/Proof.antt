@@ -1,9 +1,9 @@
 -- `known_list` is safe and ends: the list keeps its length, and the index goes up to it.
 use Prim.Native.Nat.{_≤_, _-_}
-use mathlib.Core.Path.{_≡_, sym}
+use mathlib.Core.Path.{_≡_}
 use native.Mathlib.Omega.{arith}
 use borrow.Author.Needs.{needs}
-use lib.ListN.{length, length-set}
+use lib.ListN.{length}
 use Rattle.cases.proofs.calls.known_list.Statement.{statement}
 use Rattle.cases.proofs.calls.known_list.Tie as tie
 

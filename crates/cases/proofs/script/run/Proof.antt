@@ -1,6 +1,5 @@
 -- `run` is safe and ends: the place in the script goes up by a step's head at least, and every call hands back a sound session.
 use Prim.Native.Nat.{_≤_, _-_}
-use native.Mathlib.Omega.{arith}
 use borrow.Author.Needs.{needs}
 use lib.ListN.{length}
 use Rattle.session.specs.Calls.{Sound}
