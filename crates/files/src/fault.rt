@@ -10,10 +10,23 @@ use member::record::SPAN;
 use member::record::SPECIES;
 ghost use mathlib.Core.Path.{_≡_};
 ghost use Prim.Native.Nat.{_<_};
-ghost use Rattle.member.specs.Fields.{FIELDS};
+ghost use Rattle.member.specs.Fields.{SPECIES, FIELDS};
 ghost use Rattle.files.specs.SurveyFile.{zeroed, within, codeFault};
 
 const LAST_KIND: u16 = 6;
+
+const LAST_SPECIES: u16 = 8;
+
+// The species is one of the list where the record uses it: `is_within` of that field, apart from it so that the loop over the
+// fields keeps the only call of `is_within` and can take it in.
+fn species_within(m: Member) -> bool
+    ensures { λ r. ⌜ r ≡ within m SPECIES ⌝ }
+{
+    if inside(1, LAST_SPECIES, m.fields[SPECIES]) {
+        return true;
+    }
+    !is_used(m.fields[KIND], m.fields[CODE], SPECIES)
+}
 
 // 4 kind; 5 species, where used; 6 section code does not suit the kind; or 0.
 pub fn code_fault(m: Member) -> u64
@@ -24,7 +37,7 @@ pub fn code_fault(m: Member) -> u64
     if !inside(1, LAST_KIND, kind) {
         return 4;
     }
-    if !is_within(m, SPECIES) {
+    if !species_within(m) {
         return 5;
     }
     if !suits_kind(kind, code) {

@@ -18,23 +18,23 @@ returns : tie.Need-returns
 unfolding codeFault
 returns c = rw (fails (c .before .inside .ensures) (c .if1 .taken))
 
-is-within-requires : tie.Need-is-within-requires
-is-within-requires c κs = search needs
+species-within-requires : tie.Need-species-within-requires
+species-within-requires c κs = search needs
 
 returns-2 : tie.Need-returns-2
 unfolding codeFault
-returns-2 c = rw (holds (c .before .before .before .inside .ensures) (c .before .before .if1 .left), fails (c .before .is-within .ensures) (c .if2 .taken))
+returns-2 c = rw (holds (c .before .before .before .inside .ensures) (c .before .before .if1 .left), fails (c .before .species-within .ensures) (c .if2 .taken))
 
 suits-kind-requires : tie.Need-suits-kind-requires
 suits-kind-requires c κs = search needs
 
 returns-3 : tie.Need-returns-3
 unfolding codeFault
-returns-3 c = rw (holds (c .before .before .before .before .before .inside .ensures) (c .before .before .before .before .if1 .left), holds (c .before .before .before .is-within .ensures) (c .before .before .if2 .left), fails (c .before .suits-kind .ensures) (c .if3 .taken))
+returns-3 c = rw (holds (c .before .before .before .before .before .inside .ensures) (c .before .before .before .before .if1 .left), holds (c .before .before .before .species-within .ensures) (c .before .before .if2 .left), fails (c .before .suits-kind .ensures) (c .if3 .taken))
 
 returns-4 : tie.Need-returns-4
 unfolding codeFault
-returns-4 c = rw (holds (c .before .before .before .before .before .inside .ensures) (c .before .before .before .before .if1 .left), holds (c .before .before .before .is-within .ensures) (c .before .before .if2 .left), holds (c .before .suits-kind .ensures) (c .if3 .left))
+returns-4 c = rw (holds (c .before .before .before .before .before .inside .ensures) (c .before .before .before .before .if1 .left), holds (c .before .before .before .species-within .ensures) (c .before .before .if2 .left), holds (c .before .suits-kind .ensures) (c .if3 .left))
 
 pub code-fault-spec : {M : Type 1} → statement M
 code-fault-spec =
@@ -44,7 +44,7 @@ code-fault-spec =
     element-copy-out-code
     inside-requires
     returns
-    is-within-requires
+    species-within-requires
     returns-2
     suits-kind-requires
     returns-3
