@@ -14,6 +14,8 @@ use Rattle.rating.specs.Judgement.{permittedFor, ratingOf, judgementOf, written
 use Rattle.member.specs.PermittedLoad.{formulaOf}
 use Rattle.rating.specs.Surveyed.{memberAt}
 use Rattle.rating.specs.VehicleLoad.{influenceLine, vehicleLoadOn}
+use Rattle.rating.specs.declared.judging.Judgement.{Judgement}
+use Rattle.rating.specs.declared.judging.Rating.{Rating}
 use Rattle.rating.specs.declared.judging.Verdict.the-variants.{Refuse}
 use Rattle.member.specs.declared.record.Member.{Member}
 use Rattle.member.specs.declared.record.Vehicle.{Vehicle}
@@ -25,6 +27,20 @@ use Rattle.session.specs.Answers.{Answer, Values, RefusedAt, refusedBy, 
 use Rattle.session.specs.Calls.{newSession, members, loadSurvey, loadVehicle, rate, judge, judgeList, judgeFiles}
 use Rattle.session.specs.declared.Session.{Session}
 
+-- In a session: the permitted load, the vehicle load and the rating of the member of index i (its place less 1), and the bridge's
+-- judgement.
+abbrev pub permittedAt : Session → (i : ℕ) → ℕ
+permittedAt s i = permittedFor (s .vehicle) (memberAt (members s) i)
+
+abbrev pub vehicleLoadAt : Session → (i : ℕ) → ℕ
+vehicleLoadAt s i = vehicleLoadOn (memberAt (members s) i) (s .vehicle)
+
+abbrev pub ratingAt : Session → (i : ℕ) → Rating
+ratingAt s i = ratingOf (memberAt (members s) i) (s .vehicle)
+
+abbrev pub judgementIn : Session → Judgement
+judgementIn s = judgementOf (members s) (s .vehicle)
+
 -- the call succeeds with values, or is refused by a number from the state, at place 0
 abbrev pub FromState : (numbers : ℕ → Type 0) → Answer → Type 0
 FromState numbers a = ((values : List ℕ) × (a ≡ Values values)) ⊎ ((n : ℕ) × (numbers n) × (a ≡ RefusedAt n 0))
@@ -32,22 +48,31 @@ FromState numbers a = ((values : List ℕ) × (a ≡ Values values)) ⊎ ((n : �
 -- Demand 1. "Every call ends" is what the checker shows of every function that it accepts; the calls below are total.
 pub record Demand1 : Type 0 where
   -- "The two files, as bytes of any length, are taken, or refused by a number of the list with the record named."
-  pub survey-answered : (s : Session) (bytes : List ℕ) → (loadSurvey s bytes .answer ≡ Values []) ⊎ ((r : Refusal) × (loadSurvey s bytes .answer ≡ refusedBy r) × SurveyRefusal bytes r)
-  pub vehicle-answered : (s : Session) (bytes : List ℕ) → (loadVehicle s bytes .answer ≡ Values []) ⊎ ((r : Refusal) × (loadVehicle s bytes .answer ≡ refusedBy r) × VehicleRefusal bytes r)
+  pub survey-answered : (s : Session) (bytes : List ℕ) →
+      (loadSurvey s bytes .answer ≡ Values []) ⊎
+      ((r : Refusal) × (loadSurvey s bytes .answer ≡ refusedBy r) × SurveyRefusal bytes r)
+  pub vehicle-answered : (s : Session) (bytes : List ℕ) →
+      (loadVehicle s bytes .answer ≡ Values []) ⊎
+      ((r : Refusal) × (loadVehicle s bytes .answer ≡ refusedBy r) × VehicleRefusal bytes r)
   pub rate-answered : (s : Session) (place : ℕ) → FromState (In (11 ‥ 13)) (rate s place .answer)
   pub judge-answered : (s : Session) (list : List ℕ) → FromState (λ n. (In (11 ‥ 12) n) ⊎ (n ≡ 14)) (judge s list .answer)
   -- "A refused file or call leaves survey, vehicle and answer list untouched."
-  pub survey-kept : (s : Session) (bytes : List ℕ) (n p : ℕ) → loadSurvey s bytes .answer ≡ RefusedAt n p → loadSurvey s bytes .session ≡ s
-  pub vehicle-kept : (s : Session) (bytes : List ℕ) (n p : ℕ) → loadVehicle s bytes .answer ≡ RefusedAt n p → loadVehicle s bytes .session ≡ s
+  pub survey-kept : (s : Session) (bytes : List ℕ) (n p : ℕ) →
+      loadSurvey s bytes .answer ≡ RefusedAt n p → loadSurvey s bytes .session ≡ s
+  pub vehicle-kept : (s : Session) (bytes : List ℕ) (n p : ℕ) →
+      loadVehicle s bytes .answer ≡ RefusedAt n p → loadVehicle s bytes .session ≡ s
   pub rate-keeps : (s : Session) (place : ℕ) → rate s place .session ≡ s
   pub judge-keeps : (s : Session) (list : List ℕ) → judge s list .session ≡ s
-  pub list-kept : (s : Session) (list : List ℕ) (n p : ℕ) → judge s list .answer ≡ RefusedAt n p → judgeList s list ≡ list
+  pub list-kept : (s : Session) (list : List ℕ) (n p : ℕ) →
+      judge s list .answer ≡ RefusedAt n p → judgeList s list ≡ list
 
 -- what rate and judge answer and write in a session in which both files are loaded, wherever the call succeeds
 pub record Answers (s : Session) : Type 0 where
-  pub rated : (i : ℕ) → i < s .survey .count → rate s (i + 1) .answer ≡ Values (ratingValues (ratingOf (memberAt (members s) i) (s .vehicle)))
-  pub judged : (list : List ℕ) → 2 * s .survey .count ≤ length list → judge s list .answer ≡ Values (judgementValues (judgementOf (members s) (s .vehicle)))
-  pub listed : (list : List ℕ) → 2 * s .survey .count ≤ length list → judgeList s list ≡ written (s .vehicle) (members s) list
+  pub rated : (i : ℕ) → i < s .survey .count → rate s (i + 1) .answer ≡ Values (ratingValues (ratingAt s i))
+  pub judged : (list : List ℕ) → 2 * s .survey .count ≤ length list →
+      judge s list .answer ≡ Values (judgementValues (judgementIn s))
+  pub listed : (list : List ℕ) → 2 * s .survey .count ≤ length list →
+      judgeList s list ≡ written (s .vehicle) (members s) list
 
 -- the bridge's figure and governing member, in words: the least permitted load, and the first member that has it
 pub record Governs (ms : List Member) (v : Vehicle) (figure place : ℕ) : Type 0 where
@@ -61,15 +86,17 @@ pub record Demand2 : Type 0 where
   -- "a file is taken exactly when that document allows it", and is then what the session holds
   pub survey-taken : (s : Session) (bytes : List ℕ) → (loadSurvey s bytes .answer ≡ Values []) ↔ AllowedSurveyFile bytes
   pub vehicle-taken : (s : Session) (bytes : List ℕ) → (loadVehicle s bytes .answer ≡ Values []) ↔ AllowedVehicleFile bytes
-  pub survey-held : (s : Session) (bytes : List ℕ) → AllowedSurveyFile bytes → loadSurvey s bytes .session ≡ record { survey = surveyOf bytes; vehicle = s .vehicle }
-  pub vehicle-held : (s : Session) (bytes : List ℕ) → AllowedVehicleFile bytes → loadVehicle s bytes .session ≡ record { survey = s .survey; vehicle = vehicleOf bytes }
+  pub survey-held : (s : Session) (bytes : List ℕ) → AllowedSurveyFile bytes →
+      loadSurvey s bytes .session ≡ record { survey = surveyOf bytes; vehicle = s .vehicle }
+  pub vehicle-held : (s : Session) (bytes : List ℕ) → AllowedVehicleFile bytes →
+      loadVehicle s bytes .session ≡ record { survey = s .survey; vehicle = vehicleOf bytes }
   -- "Permitted load and vehicle load of every member, the bridge's figure, governing member and verdict are those of VSN 12-73 as
   -- condensed in document 01"
   pub answers : (s : Session) → 0 < s .survey .count → 0 < s .vehicle .axles → Answers s
   pub governs : (ms : List Member) (v : Vehicle) → 0 < length ms → Governs ms v (judgementOf ms v .figure .0) (judgementOf ms v .governing)
   -- the same on the bytes of both files
   pub files-judged : (survey vehicle : List ℕ) → AllowedSurveyFile survey → AllowedVehicleFile vehicle →
-      judgeFiles survey vehicle .answer ≡ Values (judgementValues (judgementOf (members (record { survey = surveyOf survey; vehicle = vehicleOf vehicle })) (vehicleOf vehicle)))
+      judgeFiles survey vehicle .answer ≡ Values (judgementValues (judgementIn (record { survey = surveyOf survey; vehicle = vehicleOf vehicle })))
 
 -- "an accepted file is one that its load call takes": the session holds both, whatever was loaded or refused before and after
 pub record Holds (s : Session) (survey vehicle : List ℕ) : Type 0 where
@@ -96,11 +123,11 @@ pub record Covers (m : Member) (v : Vehicle) (load : ℕ) : Type 0 where
 -- of two sessions: "the permitted load of a shared member never rises, its vehicle load never falls, the bridge's figure never rises,
 -- and no verdict, of a shared member or the bridge, turns from refuse to pass"
 pub record Falls (s s' : Session) : Type 0 where
-  pub permitted : (i : ℕ) → i < length (members s) → permittedFor (s' .vehicle) (memberAt (members s') i) ≤ permittedFor (s .vehicle) (memberAt (members s) i)
-  pub vehicle-load : (i : ℕ) → i < length (members s) → vehicleLoadOn (memberAt (members s) i) (s .vehicle) ≤ vehicleLoadOn (memberAt (members s') i) (s' .vehicle)
-  pub figure : judgementOf (members s') (s' .vehicle) .figure .0 ≤ judgementOf (members s) (s .vehicle) .figure .0
-  pub member-verdict : (i : ℕ) → i < length (members s) → ratingOf (memberAt (members s) i) (s .vehicle) .verdict ≡ Refuse → ratingOf (memberAt (members s') i) (s' .vehicle) .verdict ≡ Refuse
-  pub bridge-verdict : judgementOf (members s) (s .vehicle) .verdict ≡ Refuse → judgementOf (members s') (s' .vehicle) .verdict ≡ Refuse
+  pub permitted : (i : ℕ) → i < length (members s) → permittedAt s' i ≤ permittedAt s i
+  pub vehicle-load : (i : ℕ) → i < length (members s) → vehicleLoadAt s i ≤ vehicleLoadAt s' i
+  pub figure : judgementIn s' .figure .0 ≤ judgementIn s .figure .0
+  pub member-verdict : (i : ℕ) → i < length (members s) → ratingAt s i .verdict ≡ Refuse → ratingAt s' i .verdict ≡ Refuse
+  pub bridge-verdict : judgementIn s .verdict ≡ Refuse → judgementIn s' .verdict ≡ Refuse
 
 -- Demand 3.
 pub record Demand3 : Type 0 where
@@ -108,10 +135,10 @@ pub record Demand3 : Type 0 where
   pub said-of : (s : Session) (survey vehicle : List ℕ) → Holds s survey vehicle → Answers s
   -- "The permitted load is 0 where its exact value is negative; else never above it and less than one unit below."
   pub permitted-load : (s : Session) (survey vehicle : List ℕ) → Holds s survey vehicle → (i : ℕ) → i < length (members s) →
-      Permitted (formulaOf (memberAt (members s) i) (s .vehicle .class) (s .vehicle .track)) (permittedFor (s .vehicle) (memberAt (members s) i))
+      Permitted (formulaOf (memberAt (members s) i) (s .vehicle .class) (s .vehicle .track)) (permittedAt s i)
   -- "The vehicle load is at least what every half-centimetre position in either direction gives, and less than one unit above .."
   pub vehicle-load : (s : Session) (survey vehicle : List ℕ) → Holds s survey vehicle → (i : ℕ) → i < length (members s) →
-      Covers (memberAt (members s) i) (s .vehicle) (vehicleLoadOn (memberAt (members s) i) (s .vehicle))
+      Covers (memberAt (members s) i) (s .vehicle) (vehicleLoadAt s i)
   -- "For any two accepted surveys, each with an accepted vehicle, the second with each rot, lost area, dead load and axle weight as great
   -- or greater, members added at the end, axles added behind, all else alike"
   pub falling : (s s' : Session) (survey vehicle survey' vehicle' : List ℕ) → Holds s survey vehicle → Holds s' survey' vehicle' →
