@@ -7,8 +7,8 @@ use native.Mathlib.Nat.{mul-one, le-antisymm}
 use native.Mathlib.Omega.{arith}
 use Rattle.section.specs.Fraction.{Fraction, Sound, over, whole, tenths, hundredths, square, _·_, _⊖_, _⊑_, _≐_}
 use Rattle.section.proofs.Order.{⊑-refl, ≐-⊑, ≐-⊒, ·-mono, ·-sound, ⊖-sound, whole-sound, tenths-sound, square-sound}
-use Rattle.member.specs.Formula.{stringer, crossBeam, chord, joint, permitted}
-use Rattle.member.proofs.Exact.{Positive, ·-positive, Valid, permitted-mono}
+use Rattle.member.specs.Formula.{Positive, Valid, stringer, crossBeam, chord, joint, permitted}
+use Rattle.member.proofs.Exact.{·-positive, permitted-mono}
 
 pub whole-positive : (n : ℕ) → 0 < n → Positive (whole n)
 unfolding whole

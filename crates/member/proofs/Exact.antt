@@ -9,22 +9,11 @@ use native.Mathlib.Omega.{arith}
 use Rattle.section.specs.Fraction.{Fraction, Sound, over, whole, floor, _·_, _÷_, _⊕_, _⊖_, _⊑_, _⊏_, _≐_, RoundedDown}
 use Rattle.section.proofs.Order.{·-mono, ÷-mono, ⊖-mono, ⊑-refl, ·-sound, ÷-sound, ⊖-sound, sub-mul, whole-sound}
 use Rattle.section.proofs.Rounding.{rounded-down, floor-mono, floor-same}
-use Rattle.member.specs.Formula.{Formula, permitted, Permitted}
-
--- a fraction above 0
-pub record Positive (a : Fraction) : Type 0 where
-  pub sound : Sound a
-  pub above-0 : 0 < a .num
+use Rattle.member.specs.Formula.{Formula, Positive, Valid, permitted, Permitted}
 
 pub ·-positive : {a b : Fraction} → Positive a → Positive b → Positive (a · b)
 unfolding _·_
 ·-positive {a} {b} p q = record { sound = ·-sound (p .sound) (q .sound); above-0 = mul-pos (p .above-0) (q .above-0) }
-
--- the divisors of a formula are above 0
-pub record Valid (f : Formula) : Type 0 where
-  pub front : Sound (f .front)
-  pub dead : Sound (f .dead)
-  pub divisor : Positive (f .divisor)
 
 module _ (f : Formula) (v : Valid f) where
   difference-sound : Sound (f .front ⊖ f .dead)
@@ -46,6 +35,7 @@ pub permitted-exact : (f : Formula) → Valid f → Permitted f (permitted f)
 unfolding permitted floor whole _·_ _÷_ _⊕_ _⊖_
 permitted-exact f v =
     record {
+      valid = v;
       negative = λ h. nothing _ _ (sub-eq-zero-of-le (le-of-lt (h .out)));
       never-above = λ h. record { out = below _ _ _ _ _ _ _ _ (sub-add-cancel (h .out)) (rounded .never-above .out) };
       near = λ h. record { out = above _ _ _ _ _ _ _ _ (sub-add-cancel (h .out)) (rounded .near .out) };

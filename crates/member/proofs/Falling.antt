@@ -16,13 +16,13 @@ use Rattle.section.proofs.Sections.{tiered-modulus-falls, sawn-modulus-falls, s
 use Rattle.section.proofs.Terms.{dowel-capacity-falls}
 use Rattle.member.specs.Fields.{KIND, SPECIES, SPAN, SPACING, DISTANCE, HEIGHT, DEAD-LOAD, CODE, S1, S2, S3, S4, S5, S6, MU-A, MU-B, FIELDS, field}
 use Rattle.member.specs.Format.{AllowedMember, used, unusedByKind, unusedByCode, suits, bending}
-use Rattle.member.specs.Formula.{Formula, permitted, Permitted, dowelled, keyed, plates}
+use Rattle.member.specs.Formula.{Formula, Valid, permitted, Permitted, dowelled, keyed, plates}
 use Rattle.member.specs.Wear.{rotFields, lostFields, wears, Worn}
 use Rattle.member.specs.PermittedLoad.{distribution, loadFactor, sectionModulus, netArea, capacity, jointFront, stringerOf, crossBeamOf, chordOf, jointOf, formulaOf, permittedLoad}
 use Rattle.member.specs.Sizes.{Spaced, Inside, Ratio}
 use Rattle.member.specs.declared.record.Member.{Member}
 use Rattle.member.proofs.Allowed.{one-of-four, log-sizes, chord-code, dowel-code, area-code, code-in-bending}
-use Rattle.member.proofs.Exact.{Valid, permitted-exact}
+use Rattle.member.proofs.Exact.{permitted-exact}
 use Rattle.member.proofs.EachKind.{over-sound, stringer-mono, cross-beam-mono, chord-mono, joint-mono}
 use Rattle.member.proofs.Quantities.{by-kind, spacing, inside, ratio, valid-stringer, valid-cross-beam, valid-chord, valid-joint}
 

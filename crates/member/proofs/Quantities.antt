@@ -19,12 +19,11 @@ use Rattle.section.proofs.Terms.{dowel-capacity-sound}
 use Rattle.section.proofs.Table.{at-most}
 use Rattle.member.specs.Fields.{KIND, SPECIES, SPAN, SPACING, DISTANCE, HEIGHT, DEAD-LOAD, CODE, S1, MU-A, MU-B, field}
 use Rattle.member.specs.Format.{AllowedMember, used, unusedByKind, unusedByCode, ranges, rangeOf, suits, bending}
-use Rattle.member.specs.Formula.{Formula, dowelled, keyed, plates}
+use Rattle.member.specs.Formula.{Positive, Valid, Formula, dowelled, keyed, plates}
 use Rattle.member.specs.PermittedLoad.{loadFactor, loadFactorTenths, distribution, sectionModulus, netArea, capacity, jointFront, stringerOf, crossBeamOf, chordOf, jointOf, formulaOf}
 use Rattle.member.specs.Sizes.{Sizes, Spaced, Inside, Ratio}
 use Rattle.member.specs.declared.record.Member.{Member}
 use Rattle.member.proofs.Allowed.{everyCode, in-range}
-use Rattle.member.proofs.Exact.{Positive, Valid}
 use Rattle.member.proofs.EachKind.{stringer-valid, cross-beam-valid, chord-valid, joint-valid, whole-positive, tenths-positive, over-positive, rest-positive}
 
 -- the factors are at most 1.6

@@ -1,6 +1,6 @@
 -- The permitted load of each kind as a formula of its named quantities. Document 01, 'Permitted load', the table: in each row
 -- what stands in front, what the dead load takes, and the divisor.
-use Prim.Native.Nat.{ℕ, _+_}
+use Prim.Native.Nat.{ℕ, _+_, _<_}
 use mathlib.Core.Path.{_≡_}
 use Rattle.section.specs.Fraction.{Fraction, Sound, whole, tenths, square, floor, _·_, _÷_, _⊕_, _⊖_, _⊑_, _⊏_}
 
@@ -51,9 +51,21 @@ permitted f = floor ((f .front ⊖ f .dead) ÷ f .divisor · whole 100)
 abbrev pub Negative : Formula → Type 0
 Negative f = f .front ⊏ f .dead
 
+-- a fraction above 0
+pub record Positive (a : Fraction) : Type 0 where
+  pub sound : Sound a
+  pub above-0 : 0 < a .num
+
+-- "with a divisor above 0": what makes multiplying out mean anything
+pub record Valid (f : Formula) : Type 0 where
+  pub front : Sound (f .front)
+  pub dead : Sound (f .dead)
+  pub divisor : Positive (f .divisor)
+
 -- What demand 3 says of a permitted load p, by multiplying out: "0 where its exact value is negative; else never above it and
 -- less than one unit below". The exact value is (front − dead) / divisor × 100.
 pub record Permitted (f : Formula) (p : ℕ) : Type 0 where
+  pub valid : Valid f
   pub negative : Negative f → p ≡ 0
   pub never-above : f .dead ⊑ f .front → whole p · f .divisor ⊕ whole 100 · f .dead ⊑ whole 100 · f .front
   pub near : f .dead ⊑ f .front → whole 100 · f .front ⊏ whole (p + 1) · f .divisor ⊕ whole 100 · f .dead

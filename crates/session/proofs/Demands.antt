@@ -18,6 +18,7 @@ use Rattle.rating.specs.Judgement.{ratingOf, judgementOf, written}
 use Rattle.rating.specs.Surveyed.{AllowedSurvey, AllowedMembers, memberAt}
 use Rattle.influence.specs.Influence.{weight, behind}
 use Rattle.influence.proofs.Greatest.{greatest-given}
+use Rattle.influence.proofs.Scaled.{mirrored, gives-sound}
 use Rattle.rating.specs.VehicleLoad.{vehicleLoadOn}
 use Rattle.member.specs.declared.record.Member.{Member}
 use Rattle.member.specs.declared.record.Vehicle.{Vehicle}
@@ -223,6 +224,10 @@ module _ {s : Session} {survey vehicle : List ℕ} (h : Holds s survey vehicle) 
 covered : {m : Member} (a : AllowedMember m) (v : Vehicle) → Covers m v (vehicleLoadOn m v)
 covered {m} a v =
     record {
+      sound = λ u. (
+        gives-sound (weight (v .weights)) (behind (v .distances)) (v .axles) u (line-sized a .triangle),
+        gives-sound (weight (v .weights)) (behind (v .distances)) (v .axles) u (mirrored (line-sized a .triangle)),
+      );
       one-way = λ u. vehicle-load-covers a v u .0;
       other-way = λ u. vehicle-load-covers a v u .1;
       near =

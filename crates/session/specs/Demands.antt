@@ -5,7 +5,7 @@ use mathlib.Core.Path.{_≡_}
 use mathlib.Core.List.{List, [], _∷_}
 use mathlib.Core.Logic.{_⊎_, _↔_}
 use lib.ListN.{length}
-use Rattle.section.specs.Fraction.{Fraction, whole, _⊕_, _⊑_, _⊏_}
+use Rattle.section.specs.Fraction.{Fraction, Sound, whole, _⊕_, _⊑_, _⊏_}
 use Rattle.influence.specs.Influence.{gives, weight, behind}
 use Rattle.rating.specs.Compare.{SamePlaces, Heavier}
 use Rattle.member.specs.Format.{In, _‥_}
@@ -116,6 +116,8 @@ module _ (m : Member) (v : Vehicle) where
 -- "The vehicle load is at least what every half-centimetre position in either direction gives, and less than one unit above the
 -- greatest of these."
 pub record Covers (m : Member) (v : Vehicle) (load : ℕ) : Type 0 where
+  -- the divisors are above 0
+  pub sound : (u : ℕ) → (Sound (oneWay m v u)) × (Sound (otherWay m v u))
   pub one-way : (u : ℕ) → oneWay m v u ⊑ whole load
   pub other-way : (u : ℕ) → otherWay m v u ⊑ whole load
   pub near : ((u : ℕ) × (whole load ⊏ oneWay m v u ⊕ whole 1)) ⊎ ((u : ℕ) × (whole load ⊏ otherWay m v u ⊕ whole 1))
