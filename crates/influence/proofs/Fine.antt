@@ -14,7 +14,8 @@ use Rattle.influence.specs.Influence.{Triangle, axleSum, perMetre, great
 use Rattle.influence.specs.Scaled.{scaledHeight, scaledSum, apexTop, scaledGreatest}
 use Rattle.influence.proofs.Folds.{total-same, total-times, top-at}
 use Rattle.influence.proofs.Apex.{rising-side, falling-side, apex-enough}
-use Rattle.influence.proofs.Scaled.{mirrored, same-divisor, over-sound, axleSum-over, perMetre-mono, divisor-above-0}
+use Rattle.influence.proofs.Scaled.{mirrored, same-divisor, axleSum-over, perMetre-mono, divisor-above-0}
+use Rattle.section.proofs.Order.{over-sound}
 use Rattle.influence.proofs.Greatest.{LastBehind, behind-last, at-most-greatest}
 use Rattle.influence.proofs.Load.{at-most-load}
 

@@ -15,7 +15,8 @@ use Rattle.influence.specs.Influence.{Triangle, perMetre, gives, greates
 use Rattle.influence.specs.Scaled.{scaledSum, apexTop, scaledGreatest}
 use Rattle.influence.proofs.Folds.{total-more, of-max, of-top, of-greatest, greatest-at}
 use Rattle.influence.proofs.Apex.{sum-start, sum-past, apex-top}
-use Rattle.influence.proofs.Scaled.{mirrored, same-divisor, over-sound, over-mono, axleSum-over, perMetre-mono, perMetre-sound, gives-sound, divisor-above-0}
+use Rattle.influence.proofs.Scaled.{mirrored, same-divisor, over-mono, axleSum-over, perMetre-mono, perMetre-sound, gives-sound, divisor-above-0}
+use Rattle.section.proofs.Order.{over-sound}
 
 -- no axle stands further behind than the last
 abbrev pub LastBehind : (ℕ → ℕ) → ℕ → Type 0

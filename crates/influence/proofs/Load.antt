@@ -14,7 +14,8 @@ use Rattle.influence.specs.Influence.{Triangle, perMetre, gives, greates
 use Rattle.influence.specs.Scaled.{scaledHeight, scaledSum, apexTop, scaledGreatest}
 use Rattle.influence.proofs.Folds.{total-le, total-same, total-more, of-top}
 use Rattle.influence.proofs.Apex.{apex-top}
-use Rattle.influence.proofs.Scaled.{over-sound, over-mono, perMetre-mono, perMetre-sound, divisor-above-0}
+use Rattle.influence.proofs.Scaled.{over-mono, perMetre-mono, perMetre-sound, divisor-above-0}
+use Rattle.section.proofs.Order.{over-sound}
 use Rattle.influence.proofs.Greatest.{behind-last, greatest-sound, greatest-computed, greatest-bounds}
 
 -- the load of a sum that is scaled by P × (U - P)

@@ -27,10 +27,6 @@ same-divisor {U} {P} t =
     let back : U - (U - P) ≡ P = omega arith in
     rw back (mul-comm P (U - P))
 
-pub over-sound : (x D : ℕ) → 0 < D → Sound (over x D)
-unfolding over
-over-sound x D h = record { above-0 = h }
-
 pub over-mono : {x y : ℕ} (D : ℕ) → x ≤ y → over x D ⊑ over y D
 unfolding over
 over-mono D h = record { out = mul-le-mul-right D h }

@@ -6,7 +6,7 @@ use mathlib.Core.Path.{_≡_, refl}
 use native.Mathlib.Nat.{mul-one, le-antisymm}
 use native.Mathlib.Omega.{arith}
 use Rattle.section.specs.Fraction.{Fraction, Sound, over, whole, tenths, hundredths, square, _·_, _⊖_, _⊑_, _≐_}
-use Rattle.section.proofs.Order.{⊑-refl, ≐-⊑, ≐-⊒, ·-mono, ·-sound, ⊖-sound, whole-sound, tenths-sound, square-sound}
+use Rattle.section.proofs.Order.{⊑-refl, ≐-⊑, ≐-⊒, ·-mono, ·-sound, ⊖-sound, over-sound, whole-sound, tenths-sound, square-sound}
 use Rattle.member.specs.Formula.{Positive, Valid, stringer, crossBeam, chord, joint, permitted}
 use Rattle.member.proofs.Exact.{·-positive, permitted-mono}
 
@@ -17,10 +17,6 @@ whole-positive n h = record { sound = whole-sound n; above-0 = h }
 pub tenths-positive : (n : ℕ) → 0 < n → Positive (tenths n)
 unfolding tenths
 tenths-positive n h = record { sound = tenths-sound n; above-0 = h }
-
-pub over-sound : (n d : ℕ) → 0 < d → Sound (over n d)
-unfolding over
-over-sound n d s = record { above-0 = s }
 
 pub over-positive : (n d : ℕ) → 0 < n → 0 < d → Positive (over n d)
 unfolding over

@@ -23,7 +23,8 @@ use Rattle.member.specs.Sizes.{Spaced, Inside, Ratio}
 use Rattle.member.specs.declared.record.Member.{Member}
 use Rattle.member.proofs.Allowed.{one-of-four, log-sizes, chord-code, dowel-code, area-code, code-in-bending}
 use Rattle.member.proofs.Exact.{permitted-exact}
-use Rattle.member.proofs.EachKind.{over-sound, stringer-mono, cross-beam-mono, chord-mono, joint-mono}
+use Rattle.member.proofs.EachKind.{stringer-mono, cross-beam-mono, chord-mono, joint-mono}
+use Rattle.section.proofs.Order.{over-sound}
 use Rattle.member.proofs.Quantities.{by-kind, spacing, inside, ratio, valid-stringer, valid-cross-beam, valid-chord, valid-joint}
 
 pub hundredths-mono : {m n : ℕ} → m ≤ n → hundredths m ⊑ hundredths n

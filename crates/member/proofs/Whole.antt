@@ -9,7 +9,8 @@ use Rattle.section.specs.Fraction.{over, whole, tenths, hundredths, square, _·
 use Rattle.section.proofs.Order.{whole-sound, tenths-sound, hundredths-sound}
 use Rattle.member.specs.Formula.{stringer, crossBeam, chord, joint, permitted}
 use Rattle.member.proofs.Exact.{permitted-whole}
-use Rattle.member.proofs.EachKind.{stringer-valid, cross-beam-valid, chord-valid, joint-valid, whole-positive, tenths-positive, over-sound, over-positive, rest-whole, rest-positive}
+use Rattle.member.proofs.EachKind.{stringer-valid, cross-beam-valid, chord-valid, joint-valid, whole-positive, tenths-positive, over-positive, rest-whole, rest-positive}
+use Rattle.section.proofs.Order.{over-sound}
 
 -- t for the truncated difference 2d − e, y for l − x
 pub stringer-whole : (w k n q l d t : ℕ) → 0 < n → 0 < l → 0 < d → 0 < t →

@@ -85,6 +85,10 @@ pub ·-above-0 : (a b : Fraction) → 0 < a .num → 0 < b .num → 0 < (a · b)
 unfolding _·_
 ·-above-0 a b p q = mul-pos p q
 
+pub over-sound : (n d : ℕ) → 0 < d → Sound (over n d)
+unfolding over
+over-sound n d s = record { above-0 = s }
+
 pub whole-sound : (n : ℕ) → Sound (whole n)
 unfolding whole
 whole-sound n = omega arith

@@ -6,7 +6,8 @@ use Rattle.section.specs.Fraction.{over}
 use Rattle.section.proofs.Order.{tenths-sound, hundredths-sound}
 use Rattle.member.specs.Fields.{SPAN, field}
 use Rattle.member.specs.Format.{used, unusedByKind, unusedByCode, suits, bending}
-use Rattle.member.proofs.EachKind.{cross-beam-valid, cross-beam-same, over-sound, whole-positive}
+use Rattle.member.proofs.EachKind.{cross-beam-valid, cross-beam-same, whole-positive}
+use Rattle.section.proofs.Order.{over-sound}
 use Rattle.member.proofs.Quantities.{sizes, species, panel, span-positive, load-factor-positive, valid-cross-beam}
 use Rattle.member.proofs.Falling.{cross-beam-load}
 use borrow.Author.Needs.{needs}

@@ -6,7 +6,8 @@ use Rattle.section.specs.Fraction.{over}
 use Rattle.section.proofs.Order.{tenths-sound, hundredths-sound}
 use Rattle.member.specs.Fields.{SPAN, MU-B, field}
 use Rattle.section.specs.Fraction.{whole}
-use Rattle.member.proofs.EachKind.{joint-valid, joint-same, over-sound, over-positive, rest-positive, whole-positive}
+use Rattle.member.proofs.EachKind.{joint-valid, joint-same, over-positive, rest-positive, whole-positive}
+use Rattle.section.proofs.Order.{over-sound}
 use Rattle.member.proofs.Quantities.{sizes, load-factor-positive, distribution-positive, valid-joint}
 use Rattle.member.proofs.Falling.{joint, joint-load}
 use borrow.Author.Needs.{needs}

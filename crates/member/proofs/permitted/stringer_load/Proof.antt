@@ -6,7 +6,8 @@ use Rattle.section.specs.Fraction.{over}
 use Rattle.section.proofs.Order.{tenths-sound, hundredths-sound}
 use Rattle.member.specs.Fields.{SPAN, field}
 use Rattle.member.specs.Format.{used, unusedByKind, unusedByCode, suits, bending}
-use Rattle.member.proofs.EachKind.{stringer-valid, stringer-same, over-sound}
+use Rattle.member.proofs.EachKind.{stringer-valid, stringer-same}
+use Rattle.section.proofs.Order.{over-sound}
 use Rattle.member.proofs.Quantities.{sizes, species, spacing, span-positive, load-factor-positive, distribution-positive, valid-stringer}
 use Rattle.member.proofs.Falling.{stringer-load}
 use borrow.Author.Needs.{needs}
