@@ -1,61 +1,20 @@
--- The head of a file: it has no fault exactly when mark, version, count and length are right.
+-- The head of a file: it has no fault exactly when mark, version, count and length are right, and else the fault of the first test that
+-- fails.
 use Prim.Native.Nat.{ℕ, _+_, _-_, _*_, _≤_}
 use mathlib.Core.Path.{_≡_, refl, ap, sym, _∙_}
 use mathlib.Core.List.{List, [], _∷_}
-use mathlib.Core.Bool.{true, _&&_}
+use mathlib.Core.Bool.{Bool, true, false, _&&_}
+use mathlib.Core.Logic.{_⊎_, inl, inr, ⊎-elim, _↔_}
 use native.Mathlib.Omega.{arith}
 use lib.ListN.{length, getD, take}
 use lib.Dec.{eqb, leb}
 use borrow.Author.Tests.{eqb-true, eq-eqb, leb-true, le-leb}
 use Rattle.member.specs.Format.{_‥_, In}
 use Rattle.files.specs.Words.{byteAt, wordAt}
-use Rattle.files.specs.Reading.{_unless_, isIn}
+use Rattle.files.specs.Reading.{_unless_, firstOf, isIn}
 use Rattle.files.specs.Header.{marked, headerFault}
-use Rattle.files.proofs.Tests.{both, in-range, range-in, passed, none, first-is}
-
--- what a header without a fault says
-pub record Headed (letter header most size : ℕ) (bytes : List ℕ) : Type 0 where
-  pub long : header ≤ length bytes
-  pub marks : marked bytes letter ≡ true
-  pub count : In (1 ‥ most) (byteAt bytes (header - 1))
-  pub sized : length bytes ≡ header + size * byteAt bytes (header - 1)
-
-module _ (letter header most size : ℕ) (bytes : List ℕ) where
-  pub headed : headerFault letter header most size bytes ≡ 0 → Headed letter header most size bytes
-  unfolding headerFault
-  headed e =
-      let long = leb header (length bytes) in
-      let marks = marked bytes letter in
-      let counted = isIn (1 ‥ most) (byteAt bytes (header - 1)) in
-      let sized = eqb (length bytes) (header + size * byteAt bytes (header - 1)) in
-      let first = none (1 unless long) (2 unless marks ∷ 3 unless counted ∷ 1 unless sized ∷ []) e in
-      let second = none (2 unless marks) (3 unless counted ∷ 1 unless sized ∷ []) (first .1) in
-      let third = none (3 unless counted) (1 unless sized ∷ []) (second .1) in
-      let fourth = none (1 unless sized) [] (third .1) in
-      record {
-        long = leb-true _ _ (passed 1 long (omega arith) (first .0));
-        marks = passed 2 marks (omega arith) (second .0);
-        count = in-range (1 ‥ most) (byteAt bytes (header - 1)) (passed 3 counted (omega arith) (third .0));
-        sized = eqb-true _ _ (passed 1 sized (omega arith) (fourth .0));
-      }
-
-  pub header-clear : Headed letter header most size bytes → headerFault letter header most size bytes ≡ 0
-  unfolding headerFault
-  header-clear h =
-      rw
-      (le-leb header (length bytes) (h .long), h .marks, range-in (1 ‥ most) (byteAt bytes (header - 1)) (h .count), eq-eqb _ _ (h .sized))
-
-  -- the header's faults are 1, 2 and 3
-  pub header-number : headerFault letter header most size bytes ≤ 3
-  unfolding headerFault
-  header-number =
-      let small : ℕ → Type 0 = λ n. n ≤ 3 in
-      let marks = marked bytes letter in
-      let counted = isIn (1 ‥ most) (byteAt bytes (header - 1)) in
-      let sized = eqb (length bytes) (header + size * byteAt bytes (header - 1)) in
-      first-is small 1 (leb header (length bytes)) (2 unless marks ∷ 3 unless counted ∷ 1 unless sized ∷ []) (omega arith)
-      (first-is small 2 marks (3 unless counted ∷ 1 unless sized ∷ []) (omega arith)
-      (first-is small 3 counted (1 unless sized ∷ []) (omega arith) (first-is small 1 sized [] (omega arith) (omega arith))))
+use Rattle.files.specs.Refused.{Marked, Headed, HeaderFault, too-short, wrong-mark, wrong-count, wrong-length}
+use Rattle.files.proofs.Tests.{both, in-range, range-in, refuted, refutes}
 
 -- the first three bytes
 take-three : (bytes : List ℕ) → 3 ≤ length bytes → take 3 bytes ≡ byteAt bytes 0 ∷ byteAt bytes 1 ∷ byteAt bytes 2 ∷ []
@@ -66,7 +25,7 @@ take-three (a ∷ b ∷ d ∷ l) h = refl
 
 module _ (bytes : List ℕ) (letter : ℕ) (long : 3 ≤ length bytes) where
   -- mark and version, as the document writes them
-  pub marks-read : marked bytes letter ≡ true → (take 3 bytes ≡ 84 ∷ 66 ∷ letter ∷ []) × (wordAt bytes 3 ≡ 1)
+  pub marks-read : marked bytes letter ≡ true → Marked bytes letter
   unfolding marked
   marks-read e =
       let first = eqb (byteAt bytes 0) 84 in
@@ -77,9 +36,63 @@ module _ (bytes : List ℕ) (letter : ℕ) (long : 3 ≤ length bytes) where
       let two = both first second (three .0) in
       (take-three bytes long ∙ rw (eqb-true (byteAt bytes 0) 84 (two .0), eqb-true (byteAt bytes 1) 66 (two .1), eqb-true (byteAt bytes 2) letter (three .1)), eqb-true _ _ (last .1))
 
-  pub marks-given : take 3 bytes ≡ 84 ∷ 66 ∷ letter ∷ [] → wordAt bytes 3 ≡ 1 → marked bytes letter ≡ true
+  pub marks-given : Marked bytes letter → marked bytes letter ≡ true
   unfolding marked
-  marks-given m v =
-      let e = sym (take-three bytes long) ∙ m in
+  marks-given h =
+      let e = sym (take-three bytes long) ∙ h .0 in
       rw
-      (eq-eqb (byteAt bytes 0) 84 (ap (λ (l : List ℕ). getD l 0 0) e), eq-eqb (byteAt bytes 1) 66 (ap (λ (l : List ℕ). getD l 1 0) e), eq-eqb (byteAt bytes 2) letter (ap (λ (l : List ℕ). getD l 2 0) e), eq-eqb (wordAt bytes 3) 1 v)
+      (eq-eqb (byteAt bytes 0) 84 (ap (λ (l : List ℕ). getD l 0 0) e), eq-eqb (byteAt bytes 1) 66 (ap (λ (l : List ℕ). getD l 1 0) e), eq-eqb (byteAt bytes 2) letter (ap (λ (l : List ℕ). getD l 2 0) e), eq-eqb (wordAt bytes 3) 1 (h .1))
+
+module _ (letter header most size : ℕ) (bytes : List ℕ) (room : 3 ≤ header) where
+  pub header-clear : Headed letter header most size bytes → headerFault letter header most size bytes ≡ 0
+  unfolding headerFault
+  header-clear h =
+      rw
+      (le-leb header (length bytes) (h .long), marks-given bytes letter (omega (arith, h .long)) (h .marked), range-in (1 ‥ most) (byteAt bytes (header - 1)) (h .count), eq-eqb _ _ (h .sized))
+
+  -- the tests in their order: all hold, or the first that fails gives its number
+  header-case : Headed letter header most size bytes ⊎ HeaderFault letter header most size bytes (headerFault letter header most size bytes)
+  unfolding headerFault
+  header-case =
+      go (leb header (length bytes)) (marked bytes letter) (isIn (1 ‥ most) (byteAt bytes (header - 1))) (eqb (length bytes) (header + size * byteAt bytes (header - 1)))
+      (leb-true _ _, le-leb _ _)
+      (λ l. (marks-read bytes letter (omega arith), marks-given bytes letter (omega arith)))
+      (in-range _ _, range-in _ _)
+      (eqb-true _ _, eq-eqb _ _)
+    where
+      go : (a b c d : Bool) → (a ≡ true) ↔ (header ≤ length bytes) → (header ≤ length bytes → (b ≡ true) ↔ Marked bytes letter) → (c ≡ true) ↔ In (1 ‥ most) (byteAt bytes (header - 1)) → (d ≡ true) ↔ (length bytes ≡ header + size * byteAt bytes (header - 1)) → Headed letter header most size bytes ⊎ HeaderFault letter header most size bytes (firstOf (1 unless a ∷ 2 unless b ∷ 3 unless c ∷ 1 unless d ∷ []))
+      go false b c d l m n s = let h = refuted l in inr (too-short (omega arith))
+      go true false c d l m n s = inr (wrong-mark (l .0 refl) (refuted (m (l .0 refl))))
+      go true true false d l m n s = inr (wrong-count (l .0 refl) (m (l .0 refl) .0 refl) (refuted n))
+      go true true true false l m n s = inr (wrong-length (l .0 refl) (m (l .0 refl) .0 refl) (n .0 refl) (refuted s))
+      go true true true true l m n s =
+          inl (record { long = l .0 refl; marked = m (l .0 refl) .0 refl; count = n .0 refl; sized = s .0 refl })
+
+-- the header's faults are 1, 2 and 3
+pub header-number : {letter header most size n : ℕ} {bytes : List ℕ} → HeaderFault letter header most size bytes n → In (1 ‥ 3) n
+header-number (too-short h) = omega arith
+header-number (wrong-mark l h) = omega arith
+header-number (wrong-count l m h) = omega arith
+header-number (wrong-length l m c h) = omega arith
+
+module _ (letter header most size : ℕ) (bytes : List ℕ) (room : 3 ≤ header) where
+  pub headed : headerFault letter header most size bytes ≡ 0 → Headed letter header most size bytes
+  headed e =
+      ⊎-elim (λ h. h) (λ f. absurd (omega (arith, header-number f))) (header-case letter header most size bytes room)
+
+  -- a header's number says which test fails
+  pub header-named : (n : ℕ) → headerFault letter header most size bytes ≡ n → ¬ (n ≡ 0) → HeaderFault letter header most size bytes n
+  header-named n e some =
+      ⊎-elim (λ h. absurd (some (sym e ∙ header-clear letter header most size bytes room h))) (λ f. rw e at f) (header-case letter header most size bytes room)
+
+  -- and a test that fails gives its number
+  pub header-is : {n : ℕ} → HeaderFault letter header most size bytes n → headerFault letter header most size bytes ≡ n
+  unfolding headerFault
+  header-is (too-short h) = rw (refutes (leb header (length bytes)) (leb-true header (length bytes)) (omega arith))
+  header-is (wrong-mark l h) =
+      rw (le-leb header (length bytes) l, refutes (marked bytes letter) (marks-read bytes letter (omega arith)) h)
+  header-is (wrong-count l m h) =
+      rw (le-leb header (length bytes) l, marks-given bytes letter (omega arith) m, refutes (isIn (1 ‥ most) (byteAt bytes (header - 1))) (in-range _ _) h)
+  header-is (wrong-length l m c h) =
+      rw
+      (le-leb header (length bytes) l, marks-given bytes letter (omega arith) m, range-in (1 ‥ most) (byteAt bytes (header - 1)) c, refutes (eqb (length bytes) (header + size * byteAt bytes (header - 1))) (eqb-true _ _) h)

@@ -5,5 +5,6 @@ mod Headers
 pub mod Each
 pub mod Faults
 pub mod Members
+pub mod Refusals
 pub mod Surveys
 pub mod Vehicles

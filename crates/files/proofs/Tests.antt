@@ -2,8 +2,8 @@
 use Prim.Native.Nat.{ℕ, zero, suc, _<_}
 use mathlib.Core.Path.{_≡_, refl, sym, _∙_}
 use mathlib.Core.List.{List, [], _∷_}
-use mathlib.Core.Bool.{Bool, true, false, not, _&&_, _||_}
-use mathlib.Core.Logic.{_⊎_, inl, inr}
+use mathlib.Core.Bool.{Bool, true, false, not, _&&_, _||_, and-true}
+use mathlib.Core.Logic.{_↔_}
 use native.Mathlib.Omega.{arith}
 use native.Mathlib.Decide.{decLt}
 use lib.Dec.{eqb, leb}
@@ -19,6 +19,18 @@ both false b e = (e, let z : _≡_ {A = ℕ} 0 1 = cc in absurd (omega arith))
 pub either : (a b : Bool) → (a || b) ≡ true → a ≡ false → b ≡ true
 either true b e n = let z : _≡_ {A = ℕ} 0 1 = cc in absurd (omega arith)
 either false b e n = e
+
+pub neither : (a b : Bool) → (a || b) ≡ false → (a ≡ false) × (b ≡ false)
+neither true b e = absurd (mathlib.Core.Bool.false≢true (sym e))
+neither false b e = (refl, e)
+
+-- a test fails exactly where what it decides does not hold
+pub refuted : {P : Type 0} → (false ≡ true) ↔ P → ¬ P
+refuted decides p = mathlib.Core.Bool.false≢true (decides .1 p)
+
+pub refutes : {P : Type 0} (test : Bool) → (test ≡ true → P) → ¬ P → test ≡ false
+refutes true says n = absurd (n (says refl))
+refutes false says n = refl
 
 pub in-range : (r : Range) (n : ℕ) → isIn r n ≡ true → In r n
 in-range r n e = let h = both (leb (r .low) n) (leb n (r .high)) e in (leb-true _ _ (h .0), leb-true _ _ (h .1))
@@ -40,6 +52,15 @@ module _ (test : ℕ → Bool) where
   all-of zero h = refl
   all-of (suc n) h = rw (all-of n (λ i l. h i (omega arith)), h n (omega arith))
 
+  -- a test that does not hold of every index fails of one
+  pub all-failing : (n : ℕ) → all test n ≡ false → (i : ℕ) × (i < n) × (test i ≡ false)
+  all-failing zero e = absurd (mathlib.Core.Bool.false≢true (sym e))
+  all-failing (suc n) e = go (test n) refl (all-failing n)
+    where
+      go : (b : Bool) → test n ≡ b → (all test n ≡ false → (i : ℕ) × (i < n) × (test i ≡ false)) → (i : ℕ) × (i < suc n) × (test i ≡ false)
+      go false f before = (n, omega arith, f)
+      go true t before = let below = before (sym (rw (t, and-true) at (sym e))) in (below .0, omega (arith, below .1), below .2)
+
   -- a test that fails of one index fails of every index
   pub all-fails : (n i : ℕ) → i < n → test i ≡ false → all test n ≡ false
   all-fails n i h e = go (all test n) refl
@@ -52,11 +73,6 @@ module _ (test : ℕ → Bool) where
 pub passed : (n : ℕ) (test : Bool) → 0 < n → n unless test ≡ 0 → test ≡ true
 passed n true h e = refl
 passed n false h e = absurd (omega arith)
-
--- a test has no fault, or its own
-pub none-or : (n : ℕ) (test : Bool) → (n unless test ≡ 0) ⊎ (n unless test ≡ n)
-none-or n true = inl refl
-none-or n false = inr refl
 
 -- no fault in a row of tests: none at its head, and none after
 pub none : (n : ℕ) (ns : List ℕ) → firstOf (n ∷ ns) ≡ 0 → (n ≡ 0) × (firstOf ns ≡ 0)

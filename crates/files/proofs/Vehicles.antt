@@ -1,54 +1,74 @@
 -- Reading a vehicle, beside what the document allows: a file is taken exactly when it is allowed, the vehicle then holds the
 -- file's numbers, and a refusal has its number and its place.
 use Prim.Native.Nat.{ℕ, zero, suc, _+_, _-_, _*_, _≤_, _<_}
-use mathlib.Core.Path.{_≡_, refl, sym, _∙_}
+use mathlib.Core.Path.{_≡_, refl, ap, sym, _∙_}
 use mathlib.Core.List.{List, [], _∷_}
-use mathlib.Core.Logic.{_⊎_, inl, inr, ⊎-elim}
-use mathlib.Core.Bool.{_&&_}
+use mathlib.Core.Logic.{_⊎_, inl, inr, ⊎-elim, _↔_}
+use mathlib.Core.Bool.{Bool, true, false, _&&_, and-false}
 use native.Mathlib.Omega.{arith}
 use lib.ListN.{length, getD, replicate}
 use borrow.Author.Tests.{ne-eqb}
 use Rattle.member.specs.declared.record.Vehicle.{Vehicle}
-use Rattle.member.specs.Format.{In, classRange, trackRange, weightRange, laterRange, AllowedVehicle}
+use Rattle.member.specs.Format.{_‥_, In, classRange, trackRange, weightRange, laterRange, AllowedVehicle}
 use Rattle.files.specs.Words.{wordAt}
-use Rattle.files.specs.Reading.{_unless_, isIn}
+use Rattle.files.specs.Reading.{_unless_, firstOf, firstFault, isIn}
 use Rattle.files.specs.Header.{headerFault}
 use Rattle.member.specs.Fields.{MOST-AXLES}
 use Rattle.files.specs.VehicleFile.{VEHICLE-HEADER, AXLE, axlesOf, classOf, trackOf, weightAt, distanceAt, axleRange, vehicleHeader, axleWithin, axleFault, axleFaults, vehicleAnswer, blankVehicle, vehicleOf, vehicleBy, readVehicle}
-use Rattle.files.specs.Allowed.{AllowedVehicleFile, VehicleRefusal}
+use Rattle.files.specs.Allowed.{AllowedVehicleFile}
+use Rattle.files.specs.Refused.{Headed, Fronted, FrontFault, wrong-header, wrong-class-or-track, VehicleRefusal}
 use Rattle.files.specs.declared.Refusal.{Refusal}
 use Rattle.files.specs.declared.Reading.{Reading}
 use Rattle.files.specs.declared.Reading.the-variants.{Taken, Refused}
 use Rattle.files.specs.declared.VehicleRead.{VehicleRead}
-use Rattle.files.proofs.Tests.{both, in-range, range-in, passed, none, none-or, rows-is}
+use Rattle.files.proofs.Tests.{both, in-range, range-in, refuted, refutes, passed}
 use Rattle.files.proofs.Each.{length-each, getD-each, getD-padded}
-use Rattle.files.proofs.Faults.{head-clear, taken-none, none-taken, FaultAt, refused-at}
-use Rattle.files.proofs.Headers.{Headed, headed, header-clear, header-number, marks-read, marks-given}
-
--- what a header without a fault says, class and track among it
-pub record Fronted (bytes : List ℕ) : Type 0 where
-  pub head : Headed 86 VEHICLE-HEADER MOST-AXLES AXLE bytes
-  pub class : In classRange (classOf bytes)
-  pub track : In trackRange (trackOf bytes)
-
-pub fronted : (bytes : List ℕ) → vehicleHeader bytes ≡ 0 → Fronted bytes
-unfolding vehicleHeader
-fronted bytes e =
-    let class = isIn classRange (classOf bytes) in
-    let track = isIn trackRange (trackOf bytes) in
-    let first = none (headerFault 86 VEHICLE-HEADER MOST-AXLES AXLE bytes) (7 unless (class && track) ∷ []) e in
-    let second = none (7 unless (class && track)) [] (first .1) in
-    let good = both class track (passed 7 (class && track) (omega arith) (second .0)) in
-    record {
-      head = headed 86 VEHICLE-HEADER MOST-AXLES AXLE bytes (first .0);
-      class = in-range classRange (classOf bytes) (good .0);
-      track = in-range trackRange (trackOf bytes) (good .1);
-    }
+use Rattle.files.proofs.Faults.{refusal, head-first, head-clear, fault-at, taken-none, none-taken, FaultAt, refused-at}
+use Rattle.files.proofs.Headers.{headed, header-clear, header-named, header-is, header-number}
 
 pub front-clear : (bytes : List ℕ) → Fronted bytes → vehicleHeader bytes ≡ 0
 unfolding vehicleHeader
 front-clear bytes h =
-    rw (header-clear 86 VEHICLE-HEADER MOST-AXLES AXLE bytes (h .head), range-in classRange (classOf bytes) (h .class), range-in trackRange (trackOf bytes) (h .track))
+    rw (header-clear 86 VEHICLE-HEADER MOST-AXLES AXLE bytes (omega arith) (h .head), range-in classRange (classOf bytes) (h .class), range-in trackRange (trackOf bytes) (h .track))
+
+-- the tests in their order: all hold, or the first that fails gives its number
+front-case : (bytes : List ℕ) → Fronted bytes ⊎ FrontFault bytes (vehicleHeader bytes)
+unfolding vehicleHeader
+front-case bytes =
+    go (headerFault 86 VEHICLE-HEADER MOST-AXLES AXLE bytes) refl (isIn classRange (classOf bytes)) (isIn trackRange (trackOf bytes)) (in-range _ _, range-in _ _) (in-range _ _, range-in _ _)
+  where
+    go : (n : ℕ) → headerFault 86 VEHICLE-HEADER MOST-AXLES AXLE bytes ≡ n → (a b : Bool) → (a ≡ true) ↔ In classRange (classOf bytes) → (b ≡ true) ↔ In trackRange (trackOf bytes) → Fronted bytes ⊎ FrontFault bytes (firstOf (n ∷ 7 unless (a && b) ∷ []))
+    go (suc n) e a b class track =
+        inr (rw (ne-eqb (suc n) 0 (omega arith)) (wrong-header (header-named 86 VEHICLE-HEADER MOST-AXLES AXLE bytes (omega arith) (suc n) e (omega arith))))
+    go zero e false b class track =
+        inr (wrong-class-or-track (headed 86 VEHICLE-HEADER MOST-AXLES AXLE bytes (omega arith) e) (inl (refuted class)))
+    go zero e true false class track =
+        inr (wrong-class-or-track (headed 86 VEHICLE-HEADER MOST-AXLES AXLE bytes (omega arith) e) (inr (refuted track)))
+    go zero e true true class track =
+        inl (record { head = headed 86 VEHICLE-HEADER MOST-AXLES AXLE bytes (omega arith) e; class = class .0 refl; track = track .0 refl })
+
+-- and the number of a test that fails is the front's
+pub front-is : {bytes : List ℕ} {n : ℕ} → FrontFault bytes n → vehicleHeader bytes ≡ n
+unfolding vehicleHeader
+front-is {bytes} (wrong-header {n} f) =
+    rw (header-is 86 VEHICLE-HEADER MOST-AXLES AXLE bytes (omega arith) f, ne-eqb n 0 (omega (arith, header-number f)))
+front-is {bytes} (wrong-class-or-track h (inl c)) =
+    rw (header-clear 86 VEHICLE-HEADER MOST-AXLES AXLE bytes (omega arith) h, refutes (isIn classRange (classOf bytes)) (in-range _ _) c)
+front-is {bytes} (wrong-class-or-track h (inr t)) =
+    rw (header-clear 86 VEHICLE-HEADER MOST-AXLES AXLE bytes (omega arith) h, refutes (isIn trackRange (trackOf bytes)) (in-range _ _) t, and-false)
+
+-- the header's faults are 1, 2 and 3, then 7 for class or track
+pub front-number : {bytes : List ℕ} {n : ℕ} → FrontFault bytes n → (In (1 ‥ 3) n) ⊎ (n ≡ 7)
+front-number (wrong-header f) = inl (header-number f)
+front-number (wrong-class-or-track h f) = inr refl
+
+pub fronted : (bytes : List ℕ) → vehicleHeader bytes ≡ 0 → Fronted bytes
+fronted bytes e =
+    ⊎-elim (λ h. h) (λ f. ⊎-elim (λ n. absurd (omega arith)) (λ n. absurd (omega arith)) (front-number f)) (front-case bytes)
+
+pub front-named : (bytes : List ℕ) (n : ℕ) → vehicleHeader bytes ≡ n → ¬ (n ≡ 0) → FrontFault bytes n
+front-named bytes n e some =
+    ⊎-elim (λ h. absurd (some (sym e ∙ front-clear bytes h))) (λ f. rw e at f) (front-case bytes)
 
 -- the reading is its answer with the vehicle that belongs to it
 pub read-as : (bytes : List ℕ) (answer : Reading) (vehicle : Vehicle) → answer ≡ vehicleAnswer bytes → vehicle ≡ vehicleBy answer bytes → _≡_ {A = VehicleRead} (record { answer = answer; vehicle = vehicle }) (readVehicle bytes)
@@ -63,6 +83,22 @@ axle-ranges bytes i e =
     let distance = isIn (axleRange i) (distanceAt bytes i) in
     let good = both weight distance (passed 7 (weight && distance) (omega arith) e) in
     (in-range weightRange (weightAt bytes i) (good .0), in-range (axleRange i) (distanceAt bytes i) (good .1))
+
+-- an axle with one
+pub axle-named : (bytes : List ℕ) (i n : ℕ) → axleFault bytes i ≡ n → ¬ (n ≡ 0) → (n ≡ 7) × ((¬ (In weightRange (weightAt bytes i))) ⊎ (¬ (In (axleRange i) (distanceAt bytes i))))
+unfolding axleWithin
+axle-named bytes i n e some =
+    go (isIn weightRange (weightAt bytes i)) (isIn (axleRange i) (distanceAt bytes i)) e (in-range _ _, range-in _ _) (in-range _ _, range-in _ _)
+  where
+    go : (a b : Bool) → 7 unless (a && b) ≡ n → (a ≡ true) ↔ In weightRange (weightAt bytes i) → (b ≡ true) ↔ In (axleRange i) (distanceAt bytes i) → (n ≡ 7) × ((¬ (In weightRange (weightAt bytes i))) ⊎ (¬ (In (axleRange i) (distanceAt bytes i))))
+    go false b e weight distance = (sym e, inl (refuted weight))
+    go true false e weight distance = (sym e, inr (refuted distance))
+    go true true e weight distance = absurd (some (sym e))
+
+pub axle-is : (bytes : List ℕ) (i : ℕ) → (¬ (In weightRange (weightAt bytes i))) ⊎ (¬ (In (axleRange i) (distanceAt bytes i))) → axleFault bytes i ≡ 7
+unfolding axleWithin
+axle-is bytes i (inl w) = rw (refutes (isIn weightRange (weightAt bytes i)) (in-range _ _) w)
+axle-is bytes i (inr d) = rw (refutes (isIn (axleRange i) (distanceAt bytes i)) (in-range _ _) d, and-false)
 
 pub axle-clear : (bytes : List ℕ) (i : ℕ) → In weightRange (weightAt bytes i) → In (axleRange i) (distanceAt bytes i) → axleFault bytes i ≡ 0
 unfolding axleWithin
@@ -105,10 +141,9 @@ module _ (bytes : List ℕ) where
   taken-allowed e =
       let none = taken-none 0 (vehicleHeader bytes ∷ axleFaults bytes (axlesOf bytes)) e in
       let h = fronted bytes (none 0) in
-      let marks = marks-read bytes 86 (omega (arith, h .head .long)) (h .head .marks) in
       record {
-        mark = marks .0;
-        version = marks .1;
+        mark = h .head .marked .0;
+        version = h .head .marked .1;
         size = h .head .sized;
         vehicle = clear-vehicle h (λ i l. sym (getD-each (axleFault bytes) (axlesOf bytes) i 0 l) ∙ none (suc i));
       }
@@ -117,7 +152,7 @@ module _ (bytes : List ℕ) where
   unfolding readVehicle vehicleAnswer
   allowed-taken a =
       let long : VEHICLE-HEADER ≤ length bytes = omega (arith, a .size) in
-      let head : Headed 86 VEHICLE-HEADER MOST-AXLES AXLE bytes = record { long = long; marks = marks-given bytes 86 (omega arith) (a .mark) (a .version); count = a .vehicle .axles; sized = a .size } in
+      let head : Headed 86 VEHICLE-HEADER MOST-AXLES AXLE bytes = record { long = long; marked = (a .mark, a .version); count = a .vehicle .axles; sized = a .size } in
       let front = front-clear bytes (record { head = head; class = a .vehicle .class; track = a .vehicle .track }) in
       head-clear 0 _ (axleFaults bytes (axlesOf bytes)) front ∙ none-taken 1 (axleFault bytes) (axlesOf bytes) (vehicle-clear (a .vehicle))
 
@@ -145,30 +180,57 @@ module _ (bytes : List ℕ) where
   unfolding readVehicle vehicleAnswer
   refused-first r e = refused-at 0 (vehicleHeader bytes ∷ axleFaults bytes (axlesOf bytes)) r e
 
-  -- the header's number is 1, 2 or 3, or 7 for class or track
-  front-number : (vehicleHeader bytes ≤ 3) ⊎ (vehicleHeader bytes ≡ 7)
-  unfolding vehicleHeader
-  front-number =
-      let good = isIn classRange (classOf bytes) && isIn trackRange (trackOf bytes) in
-      rows-is (λ n. (n ≤ 3) ⊎ (n ≡ 7)) (headerFault 86 VEHICLE-HEADER MOST-AXLES AXLE bytes) (7 unless good) (inl (header-number 86 VEHICLE-HEADER MOST-AXLES AXLE bytes))
-      (⊎-elim (λ z. inl (omega arith)) (λ s. inr s) (none-or 7 good))
-
   refusal-at : (r : Refusal) (p : ℕ) → r .place ≡ p → FaultAt 0 (vehicleHeader bytes ∷ axleFaults bytes (axlesOf bytes)) r → VehicleRefusal bytes r
   refusal-at r zero e h =
       let same : r .place - 0 ≡ 0 = omega arith in
-      let at : vehicleHeader bytes ≡ r .number = rw same at (h .number) in
+      let fault = front-named bytes (r .number) (rw same at (h .number)) (h .fault) in
       record {
-        number = ⊎-elim (λ l. inl (omega (arith, h .fault))) (λ s. inr (sym at ∙ s)) front-number;
+        number = front-number fault;
         header = λ l. e;
         place = omega arith;
+        front-fault = λ z. fault;
+        axle-fault = λ l. absurd (omega arith);
       }
   refusal-at r (suc i) e h =
       let step : r .place - 0 ≡ suc i = omega arith in
+      let here : r .place - 1 ≡ i = omega arith in
       let within : i < axlesOf bytes = omega (arith, h .below, length-each (axleFault bytes) (axlesOf bytes)) in
       let at : axleFault bytes i ≡ r .number = sym (getD-each (axleFault bytes) (axlesOf bytes) i 0 within) ∙ (rw step at (h .number)) in
-      let seven : r .number ≡ 7 = ⊎-elim (λ z. absurd (h .fault (sym at ∙ z))) (λ s. sym at ∙ s) (none-or 7 (axleWithin bytes i)) in
-      record { number = inr seven; header = λ l. absurd (omega arith); place = omega arith }
+      let named = axle-named bytes i (r .number) at (h .fault) in
+      record {
+        number = inr (named .0);
+        header = λ l. absurd (omega (arith, named .0));
+        place = omega arith;
+        front-fault = λ z. absurd (omega arith);
+        axle-fault = λ l.
+            rw here (
+              named .0,
+              record {
+                fronted = fronted bytes (h .first 0 (omega arith));
+                within = within;
+                fault = named .1;
+                before = λ k b. axle-ranges bytes k (sym (getD-each (axleFault bytes) (axlesOf bytes) k 0 (omega arith)) ∙ h .first (suc k) (omega arith));
+              },
+            );
+      }
 
-  -- its number and its place
-  pub refused-number : (r : Refusal) → readVehicle bytes .answer ≡ Refused r → VehicleRefusal bytes r
-  refused-number r e = refusal-at r (r .place) refl (refused-first r e)
+  -- what it says of the file
+  pub refused-named : (r : Refusal) → readVehicle bytes .answer ≡ Refused r → VehicleRefusal bytes r
+  refused-named r e = refusal-at r (r .place) refl (refused-first r e)
+
+  -- and a file of which a refusal says so is refused by it
+  pub named-refused : (r : Refusal) → VehicleRefusal bytes r → readVehicle bytes .answer ≡ Refused r
+  unfolding readVehicle vehicleAnswer
+  named-refused r h = go (r .place) refl
+    where
+      go : (p : ℕ) → r .place ≡ p → firstFault 0 (vehicleHeader bytes ∷ axleFaults bytes (axlesOf bytes)) ≡ Refused r
+      go zero e =
+          head-first 0 (r .number) (vehicleHeader bytes) (axleFaults bytes (axlesOf bytes)) (front-is (h .front-fault e)) (⊎-elim (λ n. omega arith) (λ n. omega arith) (h .number)) ∙ ap (refusal (r .number)) (sym e)
+      go (suc i) e =
+          let here : r .place - 1 ≡ i = omega arith in
+          let axle = rw here at (h .axle-fault (omega arith)) in
+          let first = axle .1 in
+          let before = none-taken 1 (axleFault bytes) i (λ k l. axle-clear bytes k (first .before k l .0) (first .before k l .1)) in
+          let there : i + 1 ≡ r .place = omega arith in
+          let seven : r .number ≡ 7 = axle .0 in
+          head-clear 0 _ (axleFaults bytes (axlesOf bytes)) (front-clear bytes (first .fronted)) ∙ fault-at (axleFault bytes) 1 i (axlesOf bytes) 7 (first .within) before (axle-is bytes i (first .fault)) (omega arith) ∙ rw (there, ← seven)

@@ -1,11 +1,9 @@
 -- What document 01 allows a survey file and a vehicle file to be, with no order of tests in it.
-use Prim.Native.Nat.{ℕ, _+_, _*_, _≤_, _<_}
+use Prim.Native.Nat.{ℕ, _+_, _*_, _<_}
 use mathlib.Core.Path.{_≡_}
 use mathlib.Core.List.{List, [], _∷_}
-use mathlib.Core.Logic.{_⊎_}
 use lib.ListN.{length, take}
 use Rattle.member.specs.Format.{_‥_, In, AllowedMember, AllowedVehicle}
-use Rattle.files.specs.declared.Refusal.{Refusal}
 use Rattle.files.specs.Words.{wordAt}
 use Rattle.member.specs.Fields.{MOST-MEMBERS}
 use Rattle.files.specs.SurveyFile.{SURVEY-HEADER, RECORD, countOf, recordAt}
@@ -25,15 +23,3 @@ pub record AllowedVehicleFile (bytes : List ℕ) : Type 0 where
   pub version : wordAt bytes 3 ≡ 1
   pub size : length bytes ≡ VEHICLE-HEADER + AXLE * axlesOf bytes
   pub vehicle : AllowedVehicle (vehicleOf bytes)
-
--- "its place is given with 4 to 8 .. The other refusals have place 0."
-pub record SurveyRefusal (bytes : List ℕ) (r : Refusal) : Type 0 where
-  pub number : In (1 ‥ 8) (r .number)
-  pub header : r .number ≤ 3 → r .place ≡ 0
-  pub place : 4 ≤ r .number → In (1 ‥ countOf bytes) (r .place)
-
--- "for a vehicle the place is the axle, 0 for class or track, which come first"
-pub record VehicleRefusal (bytes : List ℕ) (r : Refusal) : Type 0 where
-  pub number : (In (1 ‥ 3) (r .number)) ⊎ (r .number ≡ 7)
-  pub header : r .number ≤ 3 → r .place ≡ 0
-  pub place : r .place ≤ axlesOf bytes

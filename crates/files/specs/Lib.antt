@@ -4,3 +4,4 @@ pub mod Header
 pub mod SurveyFile
 pub mod VehicleFile
 pub mod Allowed
+pub mod Refused

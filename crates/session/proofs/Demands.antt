@@ -27,7 +27,8 @@ use Rattle.rating.proofs.Judged.{vehicle-load-rises, permitted-falls, member-st
 use Rattle.rating.proofs.Lines.{line-sized, vehicle-load-covers, vehicle-load-rounded-up}
 use Rattle.rating.proofs.Places.{figure-least, governing-first}
 use Rattle.rating.proofs.Surveys.{members-counted, members-allowed}
-use Rattle.files.specs.Allowed.{AllowedSurveyFile, AllowedVehicleFile, SurveyRefusal, VehicleRefusal}
+use Rattle.files.specs.Allowed.{AllowedSurveyFile, AllowedVehicleFile}
+use Rattle.files.specs.Refused.{SurveyRefusal, VehicleRefusal}
 use Rattle.files.specs.Reading.{_unless_, isIn}
 use Rattle.files.specs.SurveyFile.{readSurvey, surveyOf}
 use Rattle.files.specs.VehicleFile.{readVehicle, vehicleOf}
@@ -76,6 +77,15 @@ module _ (s : Session) (bytes : List ℕ) where
   vehicle-load : readVehicle bytes .answer ≡ Taken → loadVehicle s bytes ≡ record { session = record { survey = s .survey; vehicle = vehicleOf bytes }; answer = Values [] }
   unfolding loadVehicle
   vehicle-load e = rw (e, vehicles.taken-vehicle bytes e)
+
+  -- and one that refuses it
+  survey-refused : (r : Refusal) → readSurvey bytes .answer ≡ Refused r → loadSurvey s bytes .answer ≡ refusedBy r
+  unfolding loadSurvey
+  survey-refused r e = rw e
+
+  vehicle-refused : (r : Refusal) → readVehicle bytes .answer ≡ Refused r → loadVehicle s bytes .answer ≡ refusedBy r
+  unfolding loadVehicle
+  vehicle-refused r e = rw e
 
 -- a fault is an answer from the state, or there is none
 fault-answer : (numbers : ℕ → Type 0) (n : ℕ) (values : List ℕ) → (n ≡ 0) ⊎ numbers n → FromState numbers (unlessFault n values)
@@ -127,12 +137,14 @@ demand1 =
           reading-case (readSurvey bytes .answer)
           (λ a. (storedSurvey s a (readSurvey bytes .survey) .answer ≡ Values []) ⊎ ((r : Refusal) × (storedSurvey s a (readSurvey bytes .survey) .answer ≡ refusedBy r) × SurveyRefusal bytes r))
           (λ e. inl refl)
-          (λ r e. inr (r, refl, surveys.refused-number bytes r e));
+          (λ r e. inr (r, refl, surveys.refused-named bytes r e));
       vehicle-answered = λ s bytes.
           reading-case (readVehicle bytes .answer)
           (λ a. (storedVehicle s a (readVehicle bytes .vehicle) .answer ≡ Values []) ⊎ ((r : Refusal) × (storedVehicle s a (readVehicle bytes .vehicle) .answer ≡ refusedBy r) × VehicleRefusal bytes r))
           (λ e. inl refl)
-          (λ r e. inr (r, refl, vehicles.refused-number bytes r e));
+          (λ r e. inr (r, refl, vehicles.refused-named bytes r e));
+      survey-named = λ s bytes r h. survey-refused s bytes r (surveys.named-refused bytes r h);
+      vehicle-named = λ s bytes r h. vehicle-refused s bytes r (vehicles.named-refused bytes r h);
       rate-answered = λ s place. fault-answer (In (11 ‥ 13)) _ _ (rate-number (s .survey .count) (s .vehicle .axles) place);
       judge-answered = λ s list. fault-answer (λ n. (In (11 ‥ 12) n) ⊎ (n ≡ 14)) _ _ (judge-number (s .survey .count) (s .vehicle .axles) (length list));
       survey-kept = λ s bytes n p.

@@ -19,7 +19,8 @@ use Rattle.rating.specs.declared.judging.Rating.{Rating}
 use Rattle.rating.specs.declared.judging.Verdict.the-variants.{Refuse}
 use Rattle.member.specs.declared.record.Member.{Member}
 use Rattle.member.specs.declared.record.Vehicle.{Vehicle}
-use Rattle.files.specs.Allowed.{AllowedSurveyFile, AllowedVehicleFile, SurveyRefusal, VehicleRefusal}
+use Rattle.files.specs.Allowed.{AllowedSurveyFile, AllowedVehicleFile}
+use Rattle.files.specs.Refused.{SurveyRefusal, VehicleRefusal}
 use Rattle.files.specs.SurveyFile.{surveyOf}
 use Rattle.files.specs.VehicleFile.{vehicleOf}
 use Rattle.files.specs.declared.Refusal.{Refusal}
@@ -54,6 +55,9 @@ pub record Demand1 : Type 0 where
   pub vehicle-answered : (s : Session) (bytes : List ℕ) →
       (loadVehicle s bytes .answer ≡ Values []) ⊎
       ((r : Refusal) × (loadVehicle s bytes .answer ≡ refusedBy r) × VehicleRefusal bytes r)
+  -- a refusal names one number and one place: the file is refused by no other
+  pub survey-named : (s : Session) (bytes : List ℕ) (r : Refusal) → SurveyRefusal bytes r → loadSurvey s bytes .answer ≡ refusedBy r
+  pub vehicle-named : (s : Session) (bytes : List ℕ) (r : Refusal) → VehicleRefusal bytes r → loadVehicle s bytes .answer ≡ refusedBy r
   pub rate-answered : (s : Session) (place : ℕ) → FromState (In (11 ‥ 13)) (rate s place .answer)
   pub judge-answered : (s : Session) (list : List ℕ) → FromState (λ n. (In (11 ‥ 12) n) ⊎ (n ≡ 14)) (judge s list .answer)
   -- "A refused file or call leaves survey, vehicle and answer list untouched."

@@ -29,7 +29,7 @@ returns c =
     read-as b (c .refused .result .answer) (c .refused .result .survey) e (rw (c .refused .ensures .0) (c .refused .ensures .1))
 
 shared-slice-read-wide : tie.Need-shared-slice-read-wide
-shared-slice-read-wide c = let h = headed 82 SURVEY-HEADER MOST-MEMBERS RECORD (now (c .before .before .before .before .args .bytes)) (sym (c .before .before .header-fault .ensures) ∙ c .before .if1 .left) in omega (arith, h .sized)
+shared-slice-read-wide c = let h = headed 82 SURVEY-HEADER MOST-MEMBERS RECORD (now (c .before .before .before .before .args .bytes)) (omega arith) (sym (c .before .before .header-fault .ensures) ∙ c .before .if1 .left) in omega (arith, h .sized)
 
 wide-requires : tie.Need-wide-requires
 wide-requires c κs = search needs
@@ -38,14 +38,14 @@ cast-count : tie.Need-cast-count
 cast-count c = search needs
 
 first-fault-requires : tie.Need-first-fault-requires
-first-fault-requires c κs = let h = headed 82 SURVEY-HEADER MOST-MEMBERS RECORD (now (c .before .before .before .before .before .args .bytes)) (sym (c .before .before .before .header-fault .ensures) ∙ c .before .before .if1 .left) in omega (arith, h .sized, c .wide .ensures .0)
+first-fault-requires c κs = let h = headed 82 SURVEY-HEADER MOST-MEMBERS RECORD (now (c .before .before .before .before .before .args .bytes)) (omega arith) (sym (c .before .before .before .header-fault .ensures) ∙ c .before .before .if1 .left) in omega (arith, h .sized, c .wide .ensures .0)
 
 enum-told : tie.Need-enum-told
 enum-told c = search needs
 
 members-of-requires : tie.Need-members-of-requires
 members-of-requires c κs =
-    let h = headed 82 SURVEY-HEADER MOST-MEMBERS RECORD (now (c .before .before .before .before .before .before .before .before .args .bytes)) (sym (c .before .before .before .before .before .before .header-fault .ensures) ∙ c .before .before .before .before .before .if1 .left) in
+    let h = headed 82 SURVEY-HEADER MOST-MEMBERS RECORD (now (c .before .before .before .before .before .before .before .before .args .bytes)) (omega arith) (sym (c .before .before .before .before .before .before .header-fault .ensures) ∙ c .before .before .before .before .before .if1 .left) in
     let w = c .before .before .before .wide .ensures .0 in
     (omega (arith, h .count, w), omega (arith, h .sized, w))
 

@@ -22,7 +22,7 @@ unfolding vehicleHeader
 returns c = rw (← c .before .header-fault .ensures, ne-eqb _ _ (c .if1 .taken))
 
 shared-slice-read-wide : tie.Need-shared-slice-read-wide
-shared-slice-read-wide c = let b = c .before .before in omega (arith, headed 86 VEHICLE-HEADER MOST-AXLES AXLE (now (b .before .before .args .bytes)) (sym (b .header-fault .ensures) ∙ c .before .if1 .left) .long)
+shared-slice-read-wide c = let b = c .before .before in omega (arith, headed 86 VEHICLE-HEADER MOST-AXLES AXLE (now (b .before .before .args .bytes)) (omega arith) (sym (b .header-fault .ensures) ∙ c .before .if1 .left) .long)
 
 wide-requires : tie.Need-wide-requires
 wide-requires c κs = search needs
@@ -31,7 +31,7 @@ inside-requires : tie.Need-inside-requires
 inside-requires c κs = search needs
 
 word-at-requires : tie.Need-word-at-requires
-word-at-requires c κs = let b = c .before .before .before .before in omega (arith, headed 86 VEHICLE-HEADER MOST-AXLES AXLE (now (b .before .before .args .bytes)) (sym (b .header-fault .ensures) ∙ c .before .before .before .if1 .left) .long)
+word-at-requires c κs = let b = c .before .before .before .before in omega (arith, headed 86 VEHICLE-HEADER MOST-AXLES AXLE (now (b .before .before .args .bytes)) (omega arith) (sym (b .header-fault .ensures) ∙ c .before .before .before .if1 .left) .long)
 
 inside-requires-2 : tie.Need-inside-requires-2
 inside-requires-2 c κs = search needs

@@ -1,0 +1,127 @@
+-- What a refusal says of its file, in plain words beside the ordered tests of `Header`, `SurveyFile` and `VehicleFile`: what it names has
+-- the fault of its number, and nothing before that has any. proofs/ (Headers, Refusals, Surveys, Vehicles) shows that the ordered tests
+-- come to just this.
+use Prim.Native.Nat.{ℕ, _+_, _-_, _*_, _≤_, _<_}
+use mathlib.Core.Path.{_≡_}
+use mathlib.Core.Bool.{Bool, true, false}
+use mathlib.Core.List.{List, [], _∷_}
+use mathlib.Core.Logic.{_⊎_}
+use lib.ListN.{length, take}
+use Rattle.member.specs.declared.record.Member.{Member}
+use Rattle.member.specs.Fields.{KIND, SPECIES, SPAN, CODE, MU-A, MU-B, FIELDS, MOST-MEMBERS, MOST-AXLES, field}
+use Rattle.member.specs.Format.{_‥_, In, used, rangeOf, suits, classRange, trackRange, weightRange, AllowedMember}
+use Rattle.files.specs.declared.Refusal.{Refusal}
+use Rattle.files.specs.Words.{byteAt, wordAt}
+use Rattle.files.specs.SurveyFile.{SURVEY-HEADER, RECORD, countOf, recordAt}
+use Rattle.files.specs.VehicleFile.{VEHICLE-HEADER, AXLE, classOf, trackOf, axlesOf, weightAt, distanceAt, axleRange}
+
+-- the letters TB and a third one, and version 1
+abbrev pub Marked : List ℕ → (letter : ℕ) → Type 0
+Marked bytes letter = (take 3 bytes ≡ 84 ∷ 66 ∷ letter ∷ []) × (wordAt bytes 3 ≡ 1)
+
+-- a file of this third letter, header, most records, and bytes of a record
+module _ (letter header most size : ℕ) (bytes : List ℕ) where
+  -- a header with no fault
+  pub record Headed : Type 0 where
+    pub long : header ≤ length bytes
+    pub marked : Marked bytes letter
+    pub count : In (1 ‥ most) (byteAt bytes (header - 1))
+    pub sized : length bytes ≡ header + size * byteAt bytes (header - 1)
+
+  -- "A file shorter than its header gives 1, then 2, 3, 1 are tested": that test fails, and those before it hold
+  pub data HeaderFault : ℕ → Type 0 where
+    -- "or too short to hold them"
+    too-short : length bytes < header → HeaderFault 1
+    -- "2 mark or version"
+    wrong-mark : header ≤ length bytes → ¬ (Marked bytes letter) → HeaderFault 2
+    -- "3 count of members or axles"
+    wrong-count : header ≤ length bytes → Marked bytes letter → ¬ (In (1 ‥ most) (byteAt bytes (header - 1))) → HeaderFault 3
+    -- "1 length is not what the counts say"
+    wrong-length : header ≤ length bytes → Marked bytes letter → In (1 ‥ most) (byteAt bytes (header - 1)) →
+        ¬ (length bytes ≡ header + size * byteAt bytes (header - 1)) →
+        HeaderFault 1
+
+-- the record uses the field
+abbrev pub uses : Member → ℕ → Bool
+uses m f = used (field m KIND) (field m CODE) f
+
+-- what 4, 5 and 6 ask of a record
+abbrev pub KindGood : Member → Type 0
+KindGood m = In (1 ‥ 6) (field m KIND)
+
+abbrev pub SpeciesGood : Member → Type 0
+SpeciesGood m = uses m SPECIES ≡ true → In (1 ‥ 8) (field m SPECIES)
+
+abbrev pub SectionGood : Member → Type 0
+SectionGood m = suits (field m KIND) (field m CODE) ≡ true
+
+-- what 8 asks
+abbrev pub UnusedGood : Member → Type 0
+UnusedGood m = (f : ℕ) → f < FIELDS → uses m f ≡ false → field m f ≡ 0
+
+-- "in each 4, 5, 6, 8, 7": that test fails, and those before it hold
+pub data MemberFault (m : Member) : ℕ → Type 0 where
+  -- "4 kind"
+  wrong-kind : ¬ (KindGood m) → MemberFault m 4
+  -- "5 species, where used"
+  wrong-species : KindGood m → uses m SPECIES ≡ true → ¬ (In (1 ‥ 8) (field m SPECIES)) → MemberFault m 5
+  -- "6 section code does not suit the kind"
+  wrong-section : KindGood m → SpeciesGood m → suits (field m KIND) (field m CODE) ≡ false → MemberFault m 6
+  -- "8 an unused field is not 0 (lost area in bending too)"
+  not-0 : KindGood m → SpeciesGood m → SectionGood m → (f : ℕ) → f < FIELDS → uses m f ≡ false → ¬ (field m f ≡ 0) →
+      MemberFault m 8
+  -- "7 a used number .. outside its range"
+  out-of-range : KindGood m → SpeciesGood m → SectionGood m → UnusedGood m → (f : ℕ) → f < FIELDS → uses m f ≡ true →
+      ¬ (In (rangeOf (field m KIND) (field m CODE) (field m SPAN) f) (field m f)) →
+      MemberFault m 7
+  -- "as A above B"
+  A-above-B : KindGood m → SpeciesGood m → SectionGood m → UnusedGood m → field m MU-B < field m MU-A → MemberFault m 7
+
+abbrev pub SurveyHeaded : List ℕ → Type 0
+SurveyHeaded bytes = Headed 82 SURVEY-HEADER MOST-MEMBERS RECORD bytes
+
+-- the header is good, the record of index i is the first that document 01 does not allow, and this is its fault
+pub record FirstRecord (bytes : List ℕ) (number i : ℕ) : Type 0 where
+  pub headed : SurveyHeaded bytes
+  pub within : i < countOf bytes
+  pub fault : MemberFault (recordAt bytes i) number
+  pub before : (k : ℕ) → k < i → AllowedMember (recordAt bytes k)
+
+-- "The first fault in record order ends the reading, and its place is given with 4 to 8 .. The other refusals have place 0."
+pub record SurveyRefusal (bytes : List ℕ) (r : Refusal) : Type 0 where
+  pub number : In (1 ‥ 8) (r .number)
+  pub header : r .number ≤ 3 → r .place ≡ 0
+  pub place : 4 ≤ r .number → In (1 ‥ countOf bytes) (r .place)
+  -- what is named has the fault, and is the first that has any
+  pub header-fault : r .place ≡ 0 → HeaderFault 82 SURVEY-HEADER MOST-MEMBERS RECORD bytes (r .number)
+  pub record-fault : 0 < r .place → FirstRecord bytes (r .number) (r .place - 1)
+
+-- a vehicle's header, class and track with no fault
+pub record Fronted (bytes : List ℕ) : Type 0 where
+  pub head : Headed 86 VEHICLE-HEADER MOST-AXLES AXLE bytes
+  pub class : In classRange (classOf bytes)
+  pub track : In trackRange (trackOf bytes)
+
+-- "0 for class or track, which come first"
+pub data FrontFault (bytes : List ℕ) : ℕ → Type 0 where
+  wrong-header : {n : ℕ} → HeaderFault 86 VEHICLE-HEADER MOST-AXLES AXLE bytes n → FrontFault bytes n
+  -- "7 .. class or track outside its range"
+  wrong-class-or-track : Headed 86 VEHICLE-HEADER MOST-AXLES AXLE bytes →
+      (¬ (In classRange (classOf bytes))) ⊎ (¬ (In trackRange (trackOf bytes))) →
+      FrontFault bytes 7
+
+-- the front is good, the axle of index i is the first with a number outside its range, "or a first axle's distance other than 0"
+pub record FirstAxle (bytes : List ℕ) (i : ℕ) : Type 0 where
+  pub fronted : Fronted bytes
+  pub within : i < axlesOf bytes
+  pub fault : (¬ (In weightRange (weightAt bytes i))) ⊎ (¬ (In (axleRange i) (distanceAt bytes i)))
+  pub before : (k : ℕ) → k < i → (In weightRange (weightAt bytes k)) × (In (axleRange k) (distanceAt bytes k))
+
+-- "for a vehicle the place is the axle, 0 for class or track, which come first"
+pub record VehicleRefusal (bytes : List ℕ) (r : Refusal) : Type 0 where
+  pub number : (In (1 ‥ 3) (r .number)) ⊎ (r .number ≡ 7)
+  pub header : r .number ≤ 3 → r .place ≡ 0
+  pub place : r .place ≤ axlesOf bytes
+  -- what is named has the fault, and is the first that has any
+  pub front-fault : r .place ≡ 0 → FrontFault bytes (r .number)
+  pub axle-fault : 0 < r .place → (r .number ≡ 7) × FirstAxle bytes (r .place - 1)
