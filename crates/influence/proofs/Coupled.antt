@@ -6,10 +6,12 @@ use mathlib.Core.Path.{_≡_, refl}
 use mathlib.Core.List.{List}
 use native.Mathlib.Nat.{add-zero, add-suc, add-le-add, sub-add-eq}
 use native.Mathlib.Omega.{arith}
-use lib.ListN.{getD}
+use Rattle.section.specs.declared.Cm.{Cm}
+use Rattle.section.specs.declared.Kgf.{Kgf}
 use Rattle.section.specs.Fraction.{over, whole, _·_, _÷_, _⊑_}
 use Rattle.section.proofs.Rounding.{rounded-up, ceiling-least}
-use Rattle.influence.specs.Influence.{Triangle, total, perMetre, weight, behind, vehicleLoad}
+use Rattle.section.specs.Units.{weight, distance}
+use Rattle.influence.specs.Influence.{Triangle, total, perMetre, behind, vehicleLoad}
 use Rattle.influence.specs.Scaled.{scaledHeight, scaledSum, apexTop, scaledGreatest}
 use Rattle.influence.proofs.Folds.{total-same, total-split, of-top}
 use Rattle.influence.proofs.Apex.{apex-top}
@@ -17,12 +19,12 @@ use Rattle.influence.proofs.Scaled.{over-mono, perMetre-mono}
 use Rattle.influence.proofs.Load.{load-sound, load-computed, behind-alike}
 
 -- The axles of ws and ds are the first n of ws₁ and ds₁ and after them the first m of ws₂ and ds₂, at any distance.
-pub record Coupled (ws₁ ds₁ : List ℕ) (n : ℕ) (ws₂ ds₂ : List ℕ) (m : ℕ) (ws ds : List ℕ) : Type 0 where
-  pub weight-ahead : (i : ℕ) → i < n → getD ws i 0 ≡ getD ws₁ i 0
-  pub distance-ahead : (i : ℕ) → i < n → getD ds i 0 ≡ getD ds₁ i 0
-  pub weight-after : (i : ℕ) → i < m → getD ws (n + i) 0 ≡ getD ws₂ i 0
-  pub distance-after : (i : ℕ) → suc i < m → getD ds (n + suc i) 0 ≡ getD ds₂ (suc i) 0
-  pub first : getD ds₂ 0 0 ≡ 0
+pub record Coupled (ws₁ : List Kgf) (ds₁ : List Cm) (n : ℕ) (ws₂ : List Kgf) (ds₂ : List Cm) (m : ℕ) (ws : List Kgf) (ds : List Cm) : Type 0 where
+  pub weight-ahead : (i : ℕ) → i < n → weight ws i ≡ weight ws₁ i
+  pub distance-ahead : (i : ℕ) → i < n → distance ds i ≡ distance ds₁ i
+  pub weight-after : (i : ℕ) → i < m → weight ws (n + i) ≡ weight ws₂ i
+  pub distance-after : (i : ℕ) → suc i < m → distance ds (n + suc i) ≡ distance ds₂ (suc i)
+  pub first : distance ds₂ 0 ≡ 0
 
 loads-add :
     (U G G' D r r' : ℕ) → perMetre U (over G D) ⊑ whole r → perMetre U (over G' D) ⊑ whole r' →
@@ -30,7 +32,7 @@ loads-add :
 unfolding perMetre over whole _·_ _÷_
 loads-add U G G' D r r' p q = record { out = omega (arith, p .out, q .out) }
 
-module _ {ws₁ ds₁ : List ℕ} {n : ℕ} {ws₂ ds₂ : List ℕ} {m : ℕ} {ws ds : List ℕ} (c : Coupled ws₁ ds₁ n ws₂ ds₂ m ws ds) where
+module _ {ws₁ : List Kgf} {ds₁ : List Cm} {n : ℕ} {ws₂ : List Kgf} {ds₂ : List Cm} {m : ℕ} {ws : List Kgf} {ds : List Cm} (c : Coupled ws₁ ds₁ n ws₂ ds₂ m ws ds) where
   behind-after : (i : ℕ) → i < m → behind ds (n + i) ≡ behind ds n + behind ds₂ i
   unfolding behind total
   behind-after zero l = rw (add-zero n) (omega (arith, c .first))

@@ -8,9 +8,12 @@ use native.Mathlib.Nat.{le-trans, mul-add, mul-sub, mul-pos, mul-lt-mul-of-pos-l
 use native.Mathlib.Decide.{decLe}
 use native.Mathlib.Omega.{arith}
 use mathlib.Core.List.{List}
+use Rattle.section.specs.declared.Cm.{Cm}
+use Rattle.section.specs.declared.Kgf.{Kgf}
 use Rattle.section.specs.Fraction.{over, whole, _⊑_}
 use Rattle.section.proofs.Order.{⊑-trans, ≐-⊑}
-use Rattle.influence.specs.Influence.{Triangle, axleSum, perMetre, greatest, weight, behind, vehicleLoad}
+use Rattle.section.specs.Units.{weight}
+use Rattle.influence.specs.Influence.{Triangle, axleSum, perMetre, greatest, behind, vehicleLoad}
 use Rattle.influence.specs.Scaled.{scaledHeight, scaledSum, apexTop, scaledGreatest}
 use Rattle.influence.proofs.Folds.{total-same, total-times, top-at}
 use Rattle.influence.proofs.Apex.{rising-side, falling-side, apex-enough}
@@ -79,7 +82,7 @@ greatest-bounds-fine {U} {P} w b n t last k z u = (
 
 -- nor does any exceed the vehicle load
 pub load-covers-fine :
-    {U P : ℕ} (ws ds : List ℕ) (n : ℕ) → Triangle U P → (k : ℕ) → 0 < k → (u : ℕ) →
+    {U P : ℕ} (ws : List Kgf) (ds : List Cm) (n : ℕ) → Triangle U P → (k : ℕ) → 0 < k → (u : ℕ) →
     (perMetre U (axleSum (k * U) (k * P) (weight ws) (λ i. k * behind ds i) n u) ⊑ whole (vehicleLoad U P ws ds n)) ×
     (perMetre U (axleSum (k * U) (k * (U - P)) (weight ws) (λ i. k * behind ds i) n u) ⊑ whole (vehicleLoad U P ws ds n))
 load-covers-fine ws ds n t k z u =

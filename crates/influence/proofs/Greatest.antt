@@ -7,10 +7,11 @@ use mathlib.Core.Path.{_≡_, refl}
 use mathlib.Core.Logic.{_⊎_, inl, inr}
 use native.Mathlib.Nat.{le-trans, le-max-left, le-max-right, le-antisymm}
 use mathlib.Core.List.{List}
-use lib.ListN.{getD}
 use native.Mathlib.Omega.{arith}
+use Rattle.section.specs.declared.Cm.{Cm}
 use Rattle.section.specs.Fraction.{Fraction, Sound, over, whole, _·_, _÷_, _⊑_, _≐_}
 use Rattle.section.proofs.Order.{⊑-trans, ≐-⊑, ≐-⊒, of-greater, greater-left, greater-right}
+use Rattle.section.specs.Units.{distance}
 use Rattle.influence.specs.Influence.{Triangle, perMetre, gives, greatestOneWay, greatest, behind}
 use Rattle.influence.specs.Scaled.{scaledSum, apexTop, scaledGreatest}
 use Rattle.influence.proofs.Folds.{total-more, of-max, of-top, of-greatest, greatest-at}
@@ -22,9 +23,9 @@ use Rattle.section.proofs.Order.{over-sound}
 abbrev pub LastBehind : (ℕ → ℕ) → ℕ → Type 0
 LastBehind b n = (i : ℕ) → i < n → b i ≤ b (n - 1)
 
-pub behind-last : (ds : List ℕ) (n : ℕ) → LastBehind (behind ds) n
+pub behind-last : (ds : List Cm) (n : ℕ) → LastBehind (behind ds) n
 unfolding behind
-behind-last ds n i h = total-more (λ j. 2 * getD ds j 0) (omega arith)
+behind-last ds n i h = total-more (λ j. 2 * distance ds j) (omega arith)
 
 nothing-at-most : (U D : ℕ) (a : Fraction) → perMetre U (over 0 D) ⊑ a
 unfolding perMetre over whole _·_ _÷_

@@ -6,11 +6,13 @@ use mathlib.Core.Path.{_≡_, refl, ap}
 use mathlib.Core.List.{List}
 use native.Mathlib.Nat.{le-trans, mul-le-mul-right}
 use native.Mathlib.Omega.{arith}
-use lib.ListN.{getD}
+use Rattle.section.specs.declared.Cm.{Cm}
+use Rattle.section.specs.declared.Kgf.{Kgf}
 use Rattle.section.specs.Fraction.{Fraction, Sound, over, whole, ceiling, _⊑_, RoundedUp}
 use Rattle.section.proofs.Order.{⊑-trans}
 use Rattle.section.proofs.Rounding.{rounded-up, ceiling-mono, ceiling-same}
-use Rattle.influence.specs.Influence.{Triangle, perMetre, gives, greatest, weight, behind, vehicleLoad}
+use Rattle.section.specs.Units.{weight, distance}
+use Rattle.influence.specs.Influence.{Triangle, perMetre, gives, greatest, behind, vehicleLoad}
 use Rattle.influence.specs.Scaled.{scaledHeight, scaledSum, apexTop, scaledGreatest}
 use Rattle.influence.proofs.Folds.{total-le, total-same, total-more, of-top}
 use Rattle.influence.proofs.Apex.{apex-top}
@@ -25,7 +27,7 @@ loadOf U P G = ceiling (perMetre U (over G (P * (U - P))))
 pub load-sound : {U P : ℕ} (G : ℕ) → Triangle U P → Sound (perMetre U (over G (P * (U - P))))
 load-sound G t = perMetre-sound (omega arith) (over-sound G _ (divisor-above-0 t))
 
-module _ {U P : ℕ} (ws ds : List ℕ) (n : ℕ) (t : Triangle U P) where
+module _ {U P : ℕ} (ws : List Kgf) (ds : List Cm) (n : ℕ) (t : Triangle U P) where
   pub load-computed : vehicleLoad U P ws ds n ≡ loadOf U P (scaledGreatest U P (weight ws) (behind ds) n)
   unfolding vehicleLoad
   load-computed =
@@ -78,15 +80,15 @@ module _
 
 -- distances alike put the axles at the same places
 pub behind-alike :
-    (ds ds' : List ℕ) {n : ℕ} → ((i : ℕ) → i < n → getD ds i 0 ≡ getD ds' i 0) → (i : ℕ) → i < n → behind ds i ≡ behind ds' i
+    (ds ds' : List Cm) {n : ℕ} → ((i : ℕ) → i < n → distance ds i ≡ distance ds' i) → (i : ℕ) → i < n → behind ds i ≡ behind ds' i
 unfolding behind
 behind-alike ds ds' alike i l = total-same _ _ (suc i) (λ j k. ap (λ d. 2 * d) (alike j (omega arith)))
 
 -- the vehicle load never falls where axles grow heavier or are added behind
 pub load-grows :
-    {U P : ℕ} (ws ds ws' ds' : List ℕ) {n n' : ℕ} →
+    {U P : ℕ} (ws : List Kgf) (ds : List Cm) (ws' : List Kgf) (ds' : List Cm) {n n' : ℕ} →
     Triangle U P → n ≤ n' →
-    ((i : ℕ) → i < n → getD ws i 0 ≤ getD ws' i 0) → ((i : ℕ) → i < n → getD ds i 0 ≡ getD ds' i 0) →
+    ((i : ℕ) → i < n → weight ws i ≤ weight ws' i) → ((i : ℕ) → i < n → distance ds i ≡ distance ds' i) →
     vehicleLoad U P ws ds n ≤ vehicleLoad U P ws' ds' n'
 load-grows {U} {P} ws ds ws' ds' {n} {n'} t more heavier alike =
     rw (load-computed ws ds n t, load-computed ws' ds' n' t)

@@ -8,11 +8,13 @@ use native.Mathlib.Nat.{mul-le-mul, lt-of-le-of-lt}
 use native.Mathlib.Numerals.{add-one}
 use native.Mathlib.Decide.{decLe}
 use native.Mathlib.Omega.{arith}
-use lib.ListN.{getD}
 use mir.Val.{Fits}
 use mir.Syntax.{w64}
+use Rattle.section.specs.declared.Cm.{Cm}
+use Rattle.section.specs.declared.Kgf.{Kgf}
 use Rattle.section.specs.Fraction.{over, whole, _·_, _÷_}
-use Rattle.influence.specs.Influence.{total, perMetre, weight, behind}
+use Rattle.section.specs.Units.{weight, distance}
+use Rattle.influence.specs.Influence.{total, perMetre, behind}
 use Rattle.influence.specs.Scaled.{top, scaledHeight, scaledSum, apexTop}
 use Rattle.influence.specs.Bounds.{Bounded}
 use Rattle.influence.proofs.Folds.{total-cap, total-more, total-rest, of-top}
@@ -20,20 +22,20 @@ use Rattle.influence.proofs.Apex.{rising-side, falling-side}
 use Rattle.influence.proofs.Scaled.{mirrored}
 
 -- the distances of the first i axles, in half centimetres
-abbrev pub passed : List ℕ → ℕ → ℕ
-passed ds i = total (λ j. 2 * getD ds j 0) i
+abbrev pub passed : List Cm → ℕ → ℕ
+passed ds i = total (λ j. 2 * distance ds j) i
 
-pub passed-next : (ds : List ℕ) (i : ℕ) → passed ds (i + 1) ≡ passed ds i + 2 * getD ds i 0
+pub passed-next : (ds : List Cm) (i : ℕ) → passed ds (i + 1) ≡ passed ds i + 2 * distance ds i
 unfolding total
 passed-next ds i = rw (add-one i) refl
 
-pub behind-passed : (ds : List ℕ) (i : ℕ) → behind ds i ≡ passed ds i + 2 * getD ds i 0
+pub behind-passed : (ds : List Cm) (i : ℕ) → behind ds i ≡ passed ds i + 2 * distance ds i
 unfolding behind total
 behind-passed ds i = refl
 
-pub behind-further : (ds : List ℕ) {i k : ℕ} → i ≤ k → behind ds i ≤ behind ds k
+pub behind-further : (ds : List Cm) {i k : ℕ} → i ≤ k → behind ds i ≤ behind ds k
 unfolding behind
-behind-further ds l = total-more (λ j. 2 * getD ds j 0) (omega arith)
+behind-further ds l = total-more (λ j. 2 * distance ds j) (omega arith)
 
 -- one axle more
 pub sum-next :
@@ -45,7 +47,7 @@ sum-next U P w b i u e k h p = rw (add-one i, e, k, h, p) refl
 
 -- an axle that is not on the base yet stands at 0, and so do all behind it
 pub sum-rest :
-    (U P : ℕ) (w : ℕ → ℕ) (ds : List ℕ) (i n u : ℕ) → i ≤ n → u ≤ behind ds i →
+    (U P : ℕ) (w : ℕ → ℕ) (ds : List Cm) (i n u : ℕ) → i ≤ n → u ≤ behind ds i →
     scaledSum U P w (behind ds) n u ≡ scaledSum U P w (behind ds) i u
 unfolding scaledSum
 sum-rest U P w ds i n u l off = total-rest _ i n l λ k p q. nothing k (omega (arith, behind-further ds p))
@@ -83,16 +85,16 @@ height-cap {U} {P} s p h = go (decLe s P)
     go (yes l) = rw (rising-side U P s l) (mul-le-mul {n₂ = 10000} {m₂ = 10000} (omega arith) (omega arith))
     go (no l) = rw (falling-side U P s (omega arith)) (mul-le-mul {n₂ = 10000} {m₂ = 10000} (omega arith) (omega arith))
 
-module _ {U P n : ℕ} {ws ds : List ℕ} (h : Bounded U P n ws ds) where
+module _ {U P n : ℕ} {ws : List Kgf} {ds : List Cm} (h : Bounded U P n ws ds) where
   -- of the first m axles
   pub sum-cap : (m u : ℕ) → m ≤ n → scaledSum U P (weight ws) (behind ds) m u ≤ 20000000000000 * m
   unfolding scaledSum
   sum-cap m u l =
       total-cap _ 20000000000000 m λ i k.
-      mul-le-mul {n₂ = 200000} {m₂ = 100000000} (h .weight i (omega arith)) (height-cap (u - behind ds i) (omega arith) (h .base))
+      mul-le-mul {n₂ = 200000} {m₂ = 100000000} (h .weights i (omega arith)) (height-cap (u - behind ds i) (omega arith) (h .base))
 
   pub passed-cap : (m : ℕ) → m ≤ n → passed ds m ≤ 4000 * m
-  passed-cap m l = total-cap _ 4000 m (λ i k. omega (arith, h .distance i (omega arith)))
+  passed-cap m l = total-cap _ 4000 m (λ i k. omega (arith, h .distances i (omega arith)))
 
   pub apex-top-cap : apexTop U P (weight ws) (behind ds) n ≤ 20000000000000 * n
   unfolding apexTop
@@ -106,8 +108,8 @@ module _ {U P n : ℕ} {ws ds : List ℕ} (h : Bounded U P n ws ds) where
         triangle = h .triangle;
         base = h .base;
         axles = omega arith;
-        weight = λ i k. h .weight i (omega arith);
-        distance = λ i k. h .distance i (omega arith);
+        weights = λ i k. h .weights i (omega arith);
+        distances = λ i k. h .distances i (omega arith);
       }
 
   -- the same axles from the other end
@@ -117,6 +119,6 @@ module _ {U P n : ℕ} {ws ds : List ℕ} (h : Bounded U P n ws ds) where
         triangle = mirrored (h .triangle);
         base = h .base;
         axles = h .axles;
-        weight = h .weight;
-        distance = h .distance;
+        weights = h .weights;
+        distances = h .distances;
       }

@@ -2,12 +2,14 @@
 -- axles of up to 60,000 kgf, 2000 cm apart at most; heavier axles are provided for.
 use Prim.Native.Nat.{ℕ, _≤_, _<_}
 use mathlib.Core.List.{List}
-use lib.ListN.{getD}
+use Rattle.section.specs.declared.Cm.{Cm}
+use Rattle.section.specs.declared.Kgf.{Kgf}
+use Rattle.section.specs.Units.{weight, distance}
 use Rattle.influence.specs.Influence.{Triangle}
 
-pub record Bounded (U P n : ℕ) (ws ds : List ℕ) : Type 0 where
+pub record Bounded (U P n : ℕ) (ws : List Kgf) (ds : List Cm) : Type 0 where
   pub triangle : Triangle U P
   pub base : U ≤ 10000
   pub axles : n ≤ 16
-  pub weight : (i : ℕ) → i < n → getD ws i 0 ≤ 200000
-  pub distance : (i : ℕ) → i < n → getD ds i 0 ≤ 2000
+  pub weights : (i : ℕ) → i < n → weight ws i ≤ 200000
+  pub distances : (i : ℕ) → i < n → distance ds i ≤ 2000

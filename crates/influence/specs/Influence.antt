@@ -3,9 +3,11 @@
 -- axle i weighs w i and stands b i behind the front axle, and there are n.
 use Prim.Native.Nat.{ℕ, zero, suc, _+_, _-_, _*_, _<_}
 use mathlib.Core.List.{List}
-use lib.ListN.{getD}
 use lib.Dec.{leb}
 use Rattle.section.specs.Choose.{choose}
+use Rattle.section.specs.Units.{weight, distance}
+use Rattle.section.specs.declared.Cm.{Cm}
+use Rattle.section.specs.declared.Kgf.{Kgf}
 use Rattle.section.specs.Fraction.{Fraction, whole, over, _·_, _÷_, _⊕_, greater, ceiling}
 
 -- f 0 + f 1 + .. + f (n - 1), of fractions and of whole numbers
@@ -52,15 +54,10 @@ greatestOneWay U P w b n = greatestUpTo (gives U P w b n) (U + b (n - 1))
 unfoldable pub greatest : (U P : ℕ) (w b : ℕ → ℕ) (n : ℕ) → Fraction
 greatest U P w b n = greater (greatestOneWay U P w b n) (greatestOneWay U (U - P) w b n)
 
--- the weight of axle i, in a vehicle's list of weights
-abbrev pub weight : List ℕ → ℕ → ℕ
-weight ws i = getD ws i 0
-
--- How far axle i stands behind the front axle: the distances of axles 0 to i, each from the axle in front (0 for the first), two
--- half centimetres to the centimetre.
-unfoldable pub behind : List ℕ → ℕ → ℕ
-behind ds i = total (λ j. 2 * getD ds j 0) (suc i)
+-- How far axle i stands behind the front axle: the distances of axles 0 to i (that of the first is 0), two half centimetres to the centimetre.
+unfoldable pub behind : List Cm → ℕ → ℕ
+behind ds i = total (λ j. 2 * distance ds j) (suc i)
 
 -- "the vehicle load is the greatest that any position gives, rounded up once"
-unfoldable pub vehicleLoad : (U P : ℕ) (ws ds : List ℕ) (n : ℕ) → ℕ
+unfoldable pub vehicleLoad : (U P : ℕ) (ws : List Kgf) (ds : List Cm) (n : ℕ) → ℕ
 vehicleLoad U P ws ds n = ceiling (greatest U P (weight ws) (behind ds) n)

@@ -2,9 +2,9 @@
 // put an axle over the apex are tried, in both directions of travel; proofs/Apex.antt shows that they are enough.
 ghost use mathlib.Core.Path.{_≡_};
 ghost use Prim.Native.Nat.{_-_, _*_, _≤_, _<_, max};
-ghost use lib.ListN.{getD};
 ghost use Rattle.section.specs.Fraction.{over, ceiling};
-ghost use Rattle.influence.specs.Influence.{Triangle, perMetre, weight, behind, vehicleLoad};
+ghost use Rattle.section.specs.Units.{weight, distance};
+ghost use Rattle.influence.specs.Influence.{Triangle, perMetre, behind, vehicleLoad};
 ghost use Rattle.influence.specs.Scaled.{scaledHeight, scaledSum, apexTop};
 ghost use Rattle.influence.specs.Bounds.{Bounded};
 use section::Cm;
@@ -15,6 +15,9 @@ use section::fraction;
 // A length along the base, in half centimetres.
 pub struct HalfCm(pub u64);
 
+// A sum of weight × height, where every height is multiplied by apex × (base − apex): kgf times square half centimetres.
+struct ScaledSum(u64);
+
 // Two half centimetres to the centimetre; a span is at most 5000 cm.
 pub fn half_cm(d: Cm) -> HalfCm
     requires { ⌜ d .0 ≤ 5000 ⌝ }
@@ -23,31 +26,26 @@ pub fn half_cm(d: Cm) -> HalfCm
     HalfCm(2 * d.0)
 }
 
-fn centimetres(d: u16) -> Cm
-    ensures { λ r. ⌜ r .0 ≡ d ⌝ }
+// Half of a length: l / 2 is l half centimetres.
+pub fn half_of(l: Cm) -> HalfCm
+    ensures { λ r. ⌜ r .0 ≡ l .0 ⌝ }
 {
-    Cm(d as u64)
-}
-
-fn kgf(w: u32) -> Kgf
-    ensures { λ r. ⌜ r .0 ≡ w ⌝ }
-{
-    Kgf(w as u64)
+    HalfCm(l.0)
 }
 
 // How far axle i stands behind the axle in front of it.
-fn distance_of(distances: &[u16; 16], i: usize) -> HalfCm
-    requires { ⌜ (i < 16) × (getD (now distances) i 0 ≤ 2000) ⌝ }
-    ensures { λ r. ⌜ r .0 ≡ 2 * getD (now (distances .entry)) i 0 ⌝ }
+fn distance_of(distances: [Cm; 16], i: usize) -> HalfCm
+    requires { ⌜ (i < 16) × (distance distances i ≤ 2000) ⌝ }
+    ensures { λ r. ⌜ r .0 ≡ 2 * distance distances i ⌝ }
 {
-    half_cm(centimetres(distances[i]))
+    half_cm(distances[i])
 }
 
-fn weight_of(weights: &[u32; 16], i: usize) -> Kgf
+fn weight_of(weights: [Kgf; 16], i: usize) -> Kgf
     requires { ⌜ i < 16 ⌝ }
-    ensures { λ r. ⌜ r .0 ≡ getD (now (weights .entry)) i 0 ⌝ }
+    ensures { λ r. ⌜ r .0 ≡ weight weights i ⌝ }
 {
-    kgf(weights[i])
+    weights[i]
 }
 
 // How far `a` lies beyond `b`, 0 where it does not.
@@ -57,7 +55,7 @@ fn beyond(a: HalfCm, b: HalfCm) -> HalfCm
     HalfCm(fraction::less(a.0, b.0))
 }
 
-fn heavier(a: Kgf, b: Kgf) -> Kgf
+fn greater(a: ScaledSum, b: ScaledSum) -> ScaledSum
     ensures { λ r. ⌜ r .0 ≡ max (a .0) (b .0) ⌝ }
 {
     if a.0 < b.0 { b } else { a }
@@ -80,12 +78,12 @@ fn sum_at(
     base: HalfCm,
     apex: HalfCm,
     axles: usize,
-    weights: &[u32; 16],
-    distances: &[u16; 16],
+    weights: [Kgf; 16],
+    distances: [Cm; 16],
     front: HalfCm,
-) -> Kgf
-    requires { ⌜ Bounded (base .0) (apex .0) axles (now weights) (now distances) ⌝ }
-    ensures { λ r. ⌜ r .0 ≡ scaledSum (base .0) (apex .0) (weight (now (weights .entry))) (behind (now (distances .entry))) axles (front .0) ⌝ }
+) -> ScaledSum
+    requires { ⌜ Bounded (base .0) (apex .0) axles weights distances ⌝ }
+    ensures { λ r. ⌜ r .0 ≡ scaledSum (base .0) (apex .0) (weight weights) (behind distances) axles (front .0) ⌝ }
 {
     let mut sum: u64 = 0;
     let mut place = front;
@@ -94,12 +92,12 @@ fn sum_at(
         place = beyond(place, distance_of(distances, i));
         // This axle and all behind it are not on the base yet.
         if place.0 == 0 {
-            return Kgf(sum);
+            return ScaledSum(sum);
         }
         sum += weight_of(weights, i).0 * scaled_height(base, apex, place);
         i += 1;
     }
-    Kgf(sum)
+    ScaledSum(sum)
 }
 
 // The greatest of the sums that put an axle over the apex.
@@ -107,20 +105,20 @@ fn apex_top(
     base: HalfCm,
     apex: HalfCm,
     axles: usize,
-    weights: &[u32; 16],
-    distances: &[u16; 16],
-) -> Kgf
-    requires { ⌜ Bounded (base .0) (apex .0) axles (now weights) (now distances) ⌝ }
-    ensures { λ r. ⌜ r .0 ≡ apexTop (base .0) (apex .0) (weight (now (weights .entry))) (behind (now (distances .entry))) axles ⌝ }
+    weights: [Kgf; 16],
+    distances: [Cm; 16],
+) -> ScaledSum
+    requires { ⌜ Bounded (base .0) (apex .0) axles weights distances ⌝ }
+    ensures { λ r. ⌜ r .0 ≡ apexTop (base .0) (apex .0) (weight weights) (behind distances) axles ⌝ }
 {
-    let mut top = Kgf(0);
+    let mut top = ScaledSum(0);
     let mut front = apex;
     let mut j = 0;
     while j < axles {
         let place = front.0 + distance_of(distances, j).0;
         front = HalfCm(place);
         let sum = sum_at(base, apex, axles, weights, distances, front);
-        top = heavier(top, sum);
+        top = greater(top, sum);
         j += 1;
     }
     top
@@ -131,13 +129,13 @@ fn other_top(
     base: HalfCm,
     apex: HalfCm,
     mirrored: HalfCm,
-    top: Kgf,
+    top: ScaledSum,
     axles: usize,
-    weights: &[u32; 16],
-    distances: &[u16; 16],
-) -> Kgf
-    requires { ⌜ Bounded (base .0) (mirrored .0) axles (now weights) (now distances) × (top .0 ≡ apexTop (base .0) (apex .0) (weight (now weights)) (behind (now distances)) axles) ⌝ }
-    ensures { λ r. ⌜ r .0 ≡ apexTop (base .0) (mirrored .0) (weight (now (weights .entry))) (behind (now (distances .entry))) axles ⌝ }
+    weights: [Kgf; 16],
+    distances: [Cm; 16],
+) -> ScaledSum
+    requires { ⌜ Bounded (base .0) (mirrored .0) axles weights distances × (top .0 ≡ apexTop (base .0) (apex .0) (weight weights) (behind distances) axles) ⌝ }
+    ensures { λ r. ⌜ r .0 ≡ apexTop (base .0) (mirrored .0) (weight weights) (behind distances) axles ⌝ }
 {
     if mirrored.0 == apex.0 {
         return top;
@@ -147,7 +145,7 @@ fn other_top(
 
 // The vehicle load's formula, rounded up once, of a sum that is scaled by apex × (base − apex). The sum is at most that of 16
 // axles of 200,000 kgf at a scaled height of 10,000 × 10,000.
-fn per_metre(base: HalfCm, apex: HalfCm, sum: Kgf) -> KgfPerM
+fn per_metre(base: HalfCm, apex: HalfCm, sum: ScaledSum) -> KgfPerM
     requires { ⌜ Triangle (base .0) (apex .0) × (base .0 ≤ 10000) × (sum .0 ≤ 320000000000000) ⌝ }
     ensures { λ r. ⌜ r .0 ≡ ceiling (perMetre (base .0) (over (sum .0) (apex .0 * (base .0 - apex .0)))) ⌝ }
 {
@@ -161,15 +159,15 @@ pub fn vehicle_load(
     base: HalfCm,
     apex: HalfCm,
     axles: usize,
-    weights: [u32; 16],
-    distances: [u16; 16],
+    weights: [Kgf; 16],
+    distances: [Cm; 16],
 ) -> KgfPerM
     requires { ⌜ Bounded (base .0) (apex .0) axles weights distances ⌝ }
     ensures { λ r. ⌜ r .0 ≡ vehicleLoad (base .0) (apex .0) weights distances axles ⌝ }
 {
     let other_end = base.0 - apex.0;
     let mirrored = HalfCm(other_end);
-    let one_way = apex_top(base, apex, axles, &weights, &distances);
-    let other_way = other_top(base, apex, mirrored, one_way, axles, &weights, &distances);
-    per_metre(base, apex, heavier(one_way, other_way))
+    let one_way = apex_top(base, apex, axles, weights, distances);
+    let other_way = other_top(base, apex, mirrored, one_way, axles, weights, distances);
+    per_metre(base, apex, greater(one_way, other_way))
 }

@@ -7,6 +7,7 @@ use mathlib.Core.List.{List, [], _∷_, _++_}
 use lib.ListN.{getD}
 use lib.Dec.{eqb, leb}
 use Rattle.section.specs.Choose.{choose}
+use Rattle.section.specs.Units.{weight, distance}
 use Rattle.member.specs.Fields.{KIND, SPECIES, SPAN, SPACING, DISTANCE, HEIGHT, CODE, S3, S4, S5, S6, MU-A, MU-B, FIELDS, MOST-AXLES, field}
 use Rattle.member.specs.declared.record.Member.{Member}
 use Rattle.member.specs.declared.record.Vehicle.{Vehicle}
@@ -112,8 +113,8 @@ laterRange = 1 ‥ 2000
 -- What a vehicle may be: "u8 class, u16 track, u8 axles 1..16, then per axle" weight and distance.
 pub record AllowedVehicle (v : Vehicle) : Type 0 where
   pub class : In classRange (v .class)
-  pub track : In trackRange (v .track)
+  pub track : In trackRange (v .track .0)
   pub axles : In (1 ‥ MOST-AXLES) (v .axles)
-  pub weight : (i : ℕ) → i < v .axles → In weightRange (getD (v .weights) i 0)
-  pub first : getD (v .distances) 0 0 ≡ 0
-  pub distance : (i : ℕ) → 0 < i → i < v .axles → In laterRange (getD (v .distances) i 0)
+  pub weights : (i : ℕ) → i < v .axles → In weightRange (weight (v .weights) i)
+  pub first : distance (v .distances) 0 ≡ 0
+  pub distances : (i : ℕ) → 0 < i → i < v .axles → In laterRange (distance (v .distances) i)

@@ -1,16 +1,18 @@
 // The permitted load by each formula, on whole numbers with the constants multiplied out and one rounding at the end. Factors
-// are in tenths, section moduli in sixths of a cm³, capacities in hundredths of a kgf.
+// are in tenths, section moduli in sixths of a cm³, a dowel's capacity in hundredths of a kgf.
 ghost use mathlib.Core.Path.{_≡_};
 ghost use Prim.Native.Nat.{_+_, _-_, _*_, _/_, _≤_, _<_, min};
 ghost use Rattle.section.specs.Fraction.{over, whole, tenths, hundredths, _≐_};
 ghost use Rattle.member.specs.Formula.{stringer, crossBeam, chord, joint, dowelled, keyed, plates, permitted};
 ghost use Rattle.member.specs.PermittedLoad.{distribution};
 ghost use Rattle.member.specs.Sizes.{Sizes, Spaced, Inside, Ratio};
+use section::CentiKgf;
 use section::Cm;
 use section::KgfPerM;
 use section::fraction::less;
 use section::fraction::lesser;
 use section::fraction::quotient;
+use section::fraction::round_down;
 
 // x by the load factor, the lateral distribution (2d − e) / 2d and m. The quotient is taken in two steps, since x times 2d need
 // not fit 64 bits.
@@ -20,7 +22,7 @@ fn distributed(x: u64, n: u64, d: Cm, track: Cm, m: u64) -> KgfPerM
 {
     let e = lesser(track.0, d.0);
     let k = 2 * d.0;
-    KgfPerM(quotient(x, k, n * (k - e)) / m)
+    KgfPerM(round_down(quotient(x, k, n * (k - e)), m))
 }
 
 // (13)
@@ -38,7 +40,8 @@ pub fn cross_beam(w: u64, k: u64, n: u64, q: KgfPerM, l: Cm, x: Cm) -> KgfPerM
     ensures { λ r. ⌜ r .0 ≡ permitted (crossBeam (over w 6) (tenths k) (tenths n) (hundredths (q .0)) (whole (l .0)) (whole (x .0))) ⌝ }
 {
     let m = l.0 * l.0;
-    KgfPerM(less(64000 * w * k, 36 * q.0 * m) / (3 * n * (x.0 * l.0)))
+    let front = less(64000 * w * k, 36 * q.0 * m);
+    KgfPerM(round_down(front, 3 * n * (x.0 * l.0)))
 }
 
 // (27)
@@ -70,11 +73,11 @@ pub fn joint(
 }
 
 // What stands in front of (29), times 1000 · B.
-pub fn dowelled(h: Cm, t: u64, k: u64, cuts: u64, b: u64) -> u64
-    requires { ⌜ (h .0 ≤ 500) × (t ≤ 1332000) × (k ≤ 16) × (cuts ≤ 200) × (b ≤ 1000) ⌝ }
-    ensures { λ r. ⌜ over r (1000 * b) ≐ dowelled (whole (h .0)) (over t 100) (tenths k) (whole cuts) ⌝ }
+pub fn dowelled(h: Cm, t: CentiKgf, k: u64, cuts: u64, b: u64) -> u64
+    requires { ⌜ (h .0 ≤ 500) × (t .0 ≤ 1332000) × (k ≤ 16) × (cuts ≤ 200) × (b ≤ 1000) ⌝ }
+    ensures { λ r. ⌜ over r (1000 * b) ≐ dowelled (whole (h .0)) (over (t .0) 100) (tenths k) (whole cuts) ⌝ }
 {
-    2 * h.0 * t * k * cuts * b
+    2 * h.0 * t.0 * k * cuts * b
 }
 
 // What stands in front of (33), times 1000 · B.

@@ -1,6 +1,6 @@
 // The permitted load of a member, from its record, the vehicle's class and its track.
 ghost use mathlib.Core.Path.{_≡_};
-ghost use Prim.Native.Nat.{_*_, _≤_, _<_};
+ghost use Prim.Native.Nat.{ℕ, _*_, _≤_, _<_};
 ghost use Rattle.section.specs.Fraction.{over, _≐_};
 ghost use Rattle.section.specs.Species.{bendingTenths, shearTenths};
 ghost use Rattle.member.specs.Fields.{KIND, SPECIES, CODE, MU-B, field};
@@ -14,9 +14,10 @@ use crate::formula::keyed;
 use crate::formula::plates;
 use crate::formula::stringer;
 use crate::record::*;
+use section::CentiKgf;
 use section::Cm;
 use section::KgfPerM;
-use section::dowel::dowel_capacity_hundredths;
+use section::dowel::dowel_capacity;
 use section::log::tiered_modulus;
 use section::sawn::area_left;
 use section::sawn::sawn_area;
@@ -39,15 +40,9 @@ fn modulus_sixths(m: Member) -> u64
     ensures cap { λ r. ⌜ r ≤ 8640000 ⌝ }
 {
     if m.number(CODE) == 1 {
-        return 6 * tiered_modulus(m.length(S1), m.length(S2), m.number(S3));
+        return 6 * tiered_modulus(m.log());
     }
-    sawn_modulus_sixths(
-        m.length(S1),
-        m.length(S2),
-        m.length(S3),
-        m.length(S4),
-        m.number(S5),
-    )
+    sawn_modulus_sixths(m.sawn())
 }
 
 // The area of a chord, in cm².
@@ -56,14 +51,7 @@ fn chord_area(m: Member) -> u64
     ensures is { λ r. ⌜ r ≡ netArea m ⌝ }
     ensures cap { λ r. ⌜ r ≤ 144000 ⌝ }
 {
-    sawn_area(
-        m.length(S1),
-        m.length(S2),
-        m.length(S3),
-        m.length(S4),
-        m.number(S5),
-        m.number(S6),
-    )
+    sawn_area(m.sawn())
 }
 
 // The area of a keyed joint or of steel plates, in cm².
@@ -75,19 +63,13 @@ fn joint_area(m: Member) -> u64
     area_left(m.number(S1), m.number(S2))
 }
 
-// What one cut of a joint's dowels carries, in hundredths of a kgf.
-fn capacity_hundredths(m: Member) -> u64
+// What one cut of a joint's dowels carries.
+fn capacity(m: Member) -> CentiKgf
     requires { ⌜ AllowedMember m × (field m KIND ≡ 4) ⌝ }
-    ensures is { λ r. ⌜ over r 100 ≐ capacity m ⌝ }
-    ensures cap { λ r. ⌜ r ≤ 1332000 ⌝ }
+    ensures is { λ r. ⌜ over (r .0) 100 ≐ capacity m ⌝ }
+    ensures cap { λ r. ⌜ r .0 ≤ 1332000 ⌝ }
 {
-    dowel_capacity_hundredths(
-        m.number(S1),
-        m.number(S2),
-        m.length(S3),
-        m.length(S4),
-        m.length(S5),
-    )
+    dowel_capacity(m.dowels())
 }
 
 // The factor K of a member's species, in tenths.
@@ -114,10 +96,10 @@ fn joint_front(m: Member) -> u64
     ensures { λ r. ⌜ over r (1000 * field m MU-B) ≐ jointFront m ⌝ }
 {
     let kind = m.number(KIND);
-    let h = m.length(HEIGHT);
+    let h = m.height();
     let b = m.number(MU_B);
     if kind == 4 {
-        return dowelled(h, capacity_hundredths(m), bending(m), m.number(S6), b);
+        return dowelled(h, capacity(m), bending(m), m.number(S6), b);
     }
     if kind == 5 {
         return keyed(h, joint_area(m), shear(m), b);
@@ -129,30 +111,29 @@ fn stringer_load(m: Member, class: u8, track: Cm) -> KgfPerM
     requires { ⌜ AllowedMember m × (field m KIND ≡ 1) ⌝ }
     ensures { λ r. ⌜ r .0 ≡ permittedLoad m class (track .0) ⌝ }
 {
-    let q = KgfPerM(m.number(DEAD_LOAD));
     stringer(
         modulus_sixths(m),
         bending(m),
         load_factor(class),
-        q,
-        m.length(SPAN),
-        m.length(SPACING),
+        m.dead_load(),
+        m.span(),
+        m.spacing(),
         track,
     )
 }
 
-fn cross_beam_load(m: Member, class: u8, track: Cm) -> KgfPerM
+// The same for every track: a cross beam's formula has none.
+fn cross_beam_load(m: Member, class: u8) -> KgfPerM
     requires { ⌜ AllowedMember m × (field m KIND ≡ 2) ⌝ }
-    ensures { λ r. ⌜ r .0 ≡ permittedLoad m class (track .0) ⌝ }
+    ensures { λ r. ⌜ ((track : ℕ) → r .0 ≡ permittedLoad m class track) ⌝ }
 {
-    let q = KgfPerM(m.number(DEAD_LOAD));
     cross_beam(
         modulus_sixths(m),
         bending(m),
         load_factor(class),
-        q,
-        m.length(SPAN),
-        m.length(DISTANCE),
+        m.dead_load(),
+        m.span(),
+        m.distance(),
     )
 }
 
@@ -160,16 +141,15 @@ fn chord_load(m: Member, class: u8, track: Cm) -> KgfPerM
     requires { ⌜ AllowedMember m × (field m KIND ≡ 3) ⌝ }
     ensures { λ r. ⌜ r .0 ≡ permittedLoad m class (track .0) ⌝ }
 {
-    let q = KgfPerM(m.number(DEAD_LOAD));
     chord(
-        m.length(HEIGHT),
+        m.height(),
         chord_area(m),
         bending(m),
         load_factor(class),
-        q,
-        m.length(SPAN),
-        m.length(DISTANCE),
-        m.length(SPACING),
+        m.dead_load(),
+        m.span(),
+        m.distance(),
+        m.spacing(),
         track,
     )
 }
@@ -178,16 +158,15 @@ fn joint_load(m: Member, class: u8, track: Cm) -> KgfPerM
     requires { ⌜ AllowedMember m × (4 ≤ field m KIND) ⌝ }
     ensures { λ r. ⌜ r .0 ≡ permittedLoad m class (track .0) ⌝ }
 {
-    let q = KgfPerM(m.number(DEAD_LOAD));
     joint(
         joint_front(m),
         load_factor(class),
-        q,
+        m.dead_load(),
         m.number(MU_A),
         m.number(MU_B),
-        m.length(SPAN),
-        m.length(DISTANCE),
-        m.length(SPACING),
+        m.span(),
+        m.distance(),
+        m.spacing(),
         track,
     )
 }
@@ -202,7 +181,7 @@ pub fn permitted_load(m: Member, class: u8, track: Cm) -> KgfPerM
         return stringer_load(m, class, track);
     }
     if kind == 2 {
-        return cross_beam_load(m, class, track);
+        return cross_beam_load(m, class);
     }
     if kind == 3 {
         return chord_load(m, class, track);

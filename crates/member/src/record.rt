@@ -1,8 +1,14 @@
 // A member and a vehicle as their files hold them.
 ghost use mathlib.Core.Path.{_≡_};
 ghost use Prim.Native.Nat.{_<_};
-ghost use Rattle.member.specs.Fields.{field};
+ghost use Rattle.member.specs.Fields.{SPAN, SPACING, DISTANCE, HEIGHT, DEAD-LOAD, CODE, S1, S2, S3, S4, S5, S6, field};
 use section::Cm;
+use section::Kgf;
+use section::KgfPerM;
+use section::Mm;
+use section::dowel::Dowels;
+use section::log::Log;
+use section::sawn::Sawn;
 
 // The places of a member's sixteen numbers, in the file's order.
 pub const KIND: usize = 0;
@@ -55,16 +61,17 @@ pub struct Survey {
     pub members: [Member; MOST_MEMBERS],
 }
 
-// A lorry: class, track in cm, and of the first `axles` axles the weight in kgf and the distance in cm from the axle in
-// front.
+// A lorry: class, track, and of the first `axles` axles the weight and the distance from the axle in front.
 pub struct Vehicle {
     pub class: u8,
-    pub track: u16,
+    pub track: Cm,
     pub axles: usize,
-    pub weights: [u32; MOST_AXLES],
-    pub distances: [u16; MOST_AXLES],
+    pub weights: [Kgf; MOST_AXLES],
+    pub distances: [Cm; MOST_AXLES],
 }
 
+// A number leaves the record with its unit: lengths as `Cm`, the dead load as `KgfPerM`, a dowel's diameter as `Mm`. What has none
+// of these units (codes, counts, cm²) is a plain number.
 impl Member {
     // The number in a field.
     pub fn number(self, f: usize) -> u64
@@ -75,11 +82,95 @@ impl Member {
         fields[f] as u64
     }
 
-    // The length in a field.
-    pub fn length(self, f: usize) -> Cm
-        requires { ⌜ f < 16 ⌝ }
-        ensures { λ r. ⌜ r .0 ≡ field self f ⌝ }
+    // l
+    pub fn span(self) -> Cm
+        ensures { λ r. ⌜ r .0 ≡ field self SPAN ⌝ }
     {
-        Cm(self.number(f))
+        Cm(self.number(SPAN))
+    }
+
+    // d
+    pub fn spacing(self) -> Cm
+        ensures { λ r. ⌜ r .0 ≡ field self SPACING ⌝ }
+    {
+        Cm(self.number(SPACING))
+    }
+
+    // x
+    pub fn distance(self) -> Cm
+        ensures { λ r. ⌜ r .0 ≡ field self DISTANCE ⌝ }
+    {
+        Cm(self.number(DISTANCE))
+    }
+
+    // h
+    pub fn height(self) -> Cm
+        ensures { λ r. ⌜ r .0 ≡ field self HEIGHT ⌝ }
+    {
+        Cm(self.number(HEIGHT))
+    }
+
+    // q
+    pub fn dead_load(self) -> KgfPerM
+        ensures { λ r. ⌜ r .0 ≡ field self DEAD-LOAD ⌝ }
+    {
+        KgfPerM(self.number(DEAD_LOAD))
+    }
+
+    // The section of code 1: s1 diameter, s2 rot, s3 tiers.
+    pub fn log(self) -> Log
+        requires { ⌜ field self CODE ≡ 1 ⌝ }
+        ensures { λ r. ⌜ (r .diameter .0 ≡ field self S1) × (r .rot .0 ≡ field self S2) × (r .tiers ≡ field self S3) ⌝ }
+    {
+        let diameter = Cm(self.number(S1));
+        let rot = Cm(self.number(S2));
+        let tiers = self.number(S3);
+        Log {
+            diameter,
+            rot,
+            tiers,
+        }
+    }
+
+    // The section of code 2: s1 width, s2 height, s3 side rot, s4 top rot, s5 pieces, s6 lost area.
+    pub fn sawn(self) -> Sawn
+        requires { ⌜ field self CODE ≡ 2 ⌝ }
+        ensures { λ r. ⌜ (r .width .0 ≡ field self S1) × (r .height .0 ≡ field self S2) × (r .«side_rot» .0 ≡ field self S3) × (r .«top_rot» .0 ≡ field self S4) × (r .pieces ≡ field self S5) × (r .lost ≡ field self S6) ⌝ }
+    {
+        let width = Cm(self.number(S1));
+        let height = Cm(self.number(S2));
+        let side_rot = Cm(self.number(S3));
+        let top_rot = Cm(self.number(S4));
+        let pieces = self.number(S5);
+        let lost = self.number(S6);
+        Sawn {
+            width,
+            height,
+            side_rot,
+            top_rot,
+            pieces,
+            lost,
+        }
+    }
+
+    // The section of code 3: s1 type, s2 diameter, s3 middle thickness, s4 outer thickness, s5 rot, s6 cuts.
+    pub fn dowels(self) -> Dowels
+        requires { ⌜ field self CODE ≡ 3 ⌝ }
+        ensures { λ r. ⌜ (r .material ≡ field self S1) × (r .diameter .0 ≡ field self S2) × (r .middle .0 ≡ field self S3) × (r .outer .0 ≡ field self S4) × (r .rot .0 ≡ field self S5) × (r .cuts ≡ field self S6) ⌝ }
+    {
+        let material = self.number(S1);
+        let diameter = Mm(self.number(S2));
+        let middle = Cm(self.number(S3));
+        let outer = Cm(self.number(S4));
+        let rot = Cm(self.number(S5));
+        let cuts = self.number(S6);
+        Dowels {
+            material,
+            diameter,
+            middle,
+            outer,
+            rot,
+            cuts,
+        }
     }
 }

@@ -52,7 +52,7 @@ module _ {v v' : Vehicle} (hv : Heavier v v') where
         (load-grows (v .weights) (v .distances) (v' .weights) (v' .distances) (line-sized a .triangle) (hv .axles) (hv .weights) (hv .distances))
 
     pub permitted-falls : permittedFor v' m' ≤ permittedFor v m
-    permitted-falls = rw (← (hv .class), ← (hv .track)) (permitted-load-falls a a' w (v .class) (v .track))
+    permitted-falls = rw (← (hv .class), ← (hv .track)) (permitted-load-falls a a' w (v .class) (v .track .0))
 
     passed-before : passes v' m' ≡ true → passes v m ≡ true
     unfolding passes

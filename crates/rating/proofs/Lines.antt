@@ -7,11 +7,11 @@ use mathlib.Core.Bool.{Bool, true, false}
 use native.Mathlib.Decide.{decLe}
 use native.Mathlib.Omega.{arith}
 use lib.Dec.{eqb}
-use lib.ListN.{getD}
 use borrow.Author.Tests.{ne-eqb, eq-eqb}
 use Rattle.section.specs.Choose.{choose}
 use Rattle.section.specs.Fraction.{whole, _⊑_, RoundedUp}
-use Rattle.influence.specs.Influence.{Triangle, gives, greatest, weight, behind}
+use Rattle.section.specs.Units.{weight, distance}
+use Rattle.influence.specs.Influence.{Triangle, gives, greatest, behind}
 use Rattle.influence.specs.Bounds.{Bounded}
 use Rattle.influence.proofs.Load.{load-covers, load-rounded-up}
 use Rattle.member.specs.Fields.{KIND, SPAN, DISTANCE, field}
@@ -95,12 +95,12 @@ module _ {m : Member} (a : AllowedMember m) where
           triangle = line-sized .triangle;
           base = line-sized .base-high;
           axles = b .axles .1;
-          weight = λ i l. omega (arith, b .weight i l);
-          distance = λ i l. at i l;
+          weights = λ i l. omega (arith, b .weights i l);
+          distances = λ i l. at i l;
         }
       where
-        at : (i : ℕ) → i < v .axles → getD (v .distances) i 0 ≤ 2000
-        at i l = elim (decLe 1 i) [ yes p ↦ b .distance i p l .1 | no p ↦ first i (omega arith) ]
+        at : (i : ℕ) → i < v .axles → distance (v .distances) i ≤ 2000
+        at i l = elim (decLe 1 i) [ yes p ↦ b .distances i p l .1 | no p ↦ first i (omega arith) ]
           where
-            first : (i : ℕ) → i ≡ 0 → getD (v .distances) i 0 ≤ 2000
+            first : (i : ℕ) → i ≡ 0 → distance (v .distances) i ≤ 2000
             first i e = rw e (omega (arith, b .first))

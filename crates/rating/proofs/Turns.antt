@@ -29,10 +29,10 @@ use Rattle.rating.proofs.Surveys.{listed}
 
 -- a rating from its parts
 pub rating-is :
-    (m : Member) (v : Vehicle) {p l : KgfPerM} {w : Verdict} {track : ℕ} → p .0 ≡ permittedLoad m (v .class) track → track ≡ v .track →
+    (m : Member) (v : Vehicle) {p l : KgfPerM} {w : Verdict} → p .0 ≡ permittedLoad m (v .class) (v .track .0) →
     l .0 ≡ vehicleLoadOn m v → w ≡ verdictOf (leb (l .0) (p .0)) → _≡_ {A = Rating} (record { permitted = p; load = l; verdict = w }) (ratingOf m v)
 unfolding ratingOf passes vehicleLoadOn
-rating-is m v hp ht hl hw = rw (← ht, ← hp, ← hl, ← hw)
+rating-is m v hp hl hw = rw (← hp, ← hl, ← hw)
 
 both-pass : (a b : Bool) → both (verdictOf a) (verdictOf b) ≡ verdictOf (a && b)
 both-pass true b = refl

@@ -2,9 +2,10 @@
 -- rows of one table".
 use Prim.Native.Nat.{ℕ, _*_}
 use mathlib.Core.Bool.{Bool, true, _&&_}
-use mathlib.Core.List.{List, [], _∷_}
+use mathlib.Core.List.{List, [], _∷_, map}
 use lib.Dec.{eqb}
 use lib.ListN.{length}
+use Rattle.section.specs.Units.{centimetres, kgf}
 use Rattle.member.specs.PermittedLoad.{permittedLoad, capacity}
 use Rattle.rating.specs.VehicleLoad.{vehicleLoadOn}
 use Rattle.member.specs.declared.record.Member.{Member}
@@ -22,7 +23,14 @@ member numbers = record { fields = numbers }
 
 -- a vehicle of class 0 and track 190 with these axles
 abbrev pub vehicle : (weights distances : List ℕ) → Vehicle
-vehicle ws ds = record { class = 0; track = 190; axles = length ws; weights = ws; distances = ds }
+vehicle ws ds =
+    record {
+      class = 0;
+      track = centimetres 190;
+      axles = length ws;
+      weights = map kgf ws;
+      distances = map centimetres ds;
+    }
 
 abbrev pub holds : Case → Bool
 holds (permits numbers load) = eqb (permittedLoad (member numbers) 0 190) load

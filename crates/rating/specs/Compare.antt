@@ -4,7 +4,8 @@
 use Prim.Native.Nat.{ℕ, _≤_, _<_}
 use mathlib.Core.Path.{_≡_}
 use mathlib.Core.List.{List}
-use lib.ListN.{length, getD}
+use lib.ListN.{length}
+use Rattle.section.specs.Units.{weight, distance}
 use Rattle.member.specs.Wear.{Worn}
 use Rattle.member.specs.declared.record.Member.{Member}
 use Rattle.member.specs.declared.record.Vehicle.{Vehicle}
@@ -13,10 +14,10 @@ use Rattle.rating.specs.Surveyed.{memberAt}
 -- the second vehicle has each axle of the first as heavy or heavier, and "at least as many axles", all else alike
 pub record Heavier (v v' : Vehicle) : Type 0 where
   pub class : v .class ≡ v' .class
-  pub track : v .track ≡ v' .track
+  pub track : v .track .0 ≡ v' .track .0
   pub axles : v .axles ≤ v' .axles
-  pub weights : (i : ℕ) → i < v .axles → getD (v .weights) i 0 ≤ getD (v' .weights) i 0
-  pub distances : (i : ℕ) → i < v .axles → getD (v .distances) i 0 ≡ getD (v' .distances) i 0
+  pub weights : (i : ℕ) → i < v .axles → weight (v .weights) i ≤ weight (v' .weights) i
+  pub distances : (i : ℕ) → i < v .axles → distance (v .distances) i ≡ distance (v' .distances) i
 
 -- each member of the first list is matched, one to one, with a member of the second that is as worn or more
 pub record Matching (ms ms' : List Member) : Type 0 where

@@ -33,7 +33,7 @@ firstWith f x (m ∷ ms) = choose (eqb (f m) x) 1 (1 + firstWith f x ms)
 module _ (v : Vehicle) where
   -- the permitted load of a member for the vehicle
   abbrev pub permittedFor : Member → ℕ
-  permittedFor m = permittedLoad m (v .class) (v .track)
+  permittedFor m = permittedLoad m (v .class) (v .track .0)
 
   -- "A member passes when its vehicle load is at most its permitted load."
   unfoldable pub passes : Member → Bool

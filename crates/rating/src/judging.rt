@@ -10,7 +10,6 @@ ghost use Rattle.rating.specs.Turn.{both, withMember};
 use crate::vehicle::vehicle_load_on;
 use member::permitted::permitted_load;
 use member::record::*;
-use section::Cm;
 use section::KgfPerM;
 
 pub enum Verdict {
@@ -43,18 +42,13 @@ fn verdict_of(load: KgfPerM, permitted: KgfPerM) -> Verdict
     }
 }
 
-fn track_of(v: Vehicle) -> Cm
-    ensures { λ r. ⌜ r .0 ≡ v .track ⌝ }
-{
-    Cm(v.track as u64)
-}
-
 // The rating of a member for a vehicle.
 pub fn rate(m: Member, v: Vehicle) -> Rating
     requires { ⌜ AllowedMember m × AllowedVehicle v ⌝ }
     ensures { λ r. ⌜ r ≡ ratingOf m v ⌝ }
 {
-    let permitted = permitted_load(m, v.class, track_of(v));
+    let track = v.track;
+    let permitted = permitted_load(m, v.class, track);
     let load = vehicle_load_on(m, v);
     let verdict = verdict_of(load, permitted);
     Rating {

@@ -1,13 +1,23 @@
 // The load that a vehicle's axles put on a member, over the member's influence line.
 ghost use mathlib.Core.Path.{_≡_};
+ghost use Prim.Native.Nat.{_*_, _≤_};
 ghost use Rattle.member.specs.Format.{AllowedMember, AllowedVehicle};
 ghost use Rattle.rating.specs.VehicleLoad.{influenceLine, vehicleLoadOn};
 use influence::HalfCm;
 use influence::half_cm;
+use influence::half_of;
 use influence::vehicle_load;
 use member::record::*;
 use section::Cm;
 use section::KgfPerM;
+
+// The two panels beside a cross beam; a panel is at most 1000 cm long.
+fn two_panels(x: Cm) -> Cm
+    requires { ⌜ x .0 ≤ 1000 ⌝ }
+    ensures { λ r. ⌜ r .0 ≡ 2 * x .0 ⌝ }
+{
+    Cm(2 * x.0)
+}
 
 // The base: two panels for a cross beam, else the span.
 fn base_of(m: Member) -> HalfCm
@@ -15,10 +25,9 @@ fn base_of(m: Member) -> HalfCm
     ensures { λ r. ⌜ r .0 ≡ influenceLine m .base ⌝ }
 {
     if m.number(KIND) == 2 {
-        let panels = 2 * m.number(DISTANCE);
-        return half_cm(Cm(panels));
+        return half_cm(two_panels(m.distance()));
     }
-    half_cm(m.length(SPAN))
+    half_cm(m.span())
 }
 
 // The apex: the middle of a stringer, else at x.
@@ -27,9 +36,9 @@ fn apex_of(m: Member) -> HalfCm
     ensures { λ r. ⌜ r .0 ≡ influenceLine m .apex ⌝ }
 {
     if m.number(KIND) == 1 {
-        return HalfCm(m.number(SPAN));
+        return half_of(m.span());
     }
-    half_cm(m.length(DISTANCE))
+    half_cm(m.distance())
 }
 
 // The vehicle load on a member: the greatest that any position gives, rounded up once.

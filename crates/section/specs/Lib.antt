@@ -4,3 +4,4 @@ pub mod Fraction
 pub mod Log
 pub mod Sawn
 pub mod Species
+pub mod Units

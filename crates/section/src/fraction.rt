@@ -35,10 +35,10 @@ pub fn round_up(n: u64, d: u64) -> u64
     (n + (d - 1)) / d
 }
 
-// n times k over d, rounded down once, where the product n times k need not fit 64 bits.
+// n times k over d, rounded down once, where the product n times k need not fit 64 bits: the whole part of n over d, and the rest.
 pub fn quotient(n: u64, k: u64, d: u64) -> u64
     requires { ⌜ (0 < d) × (k ≤ d) × (d * k < 2 ^ 64) ⌝ }
     ensures { λ r. ⌜ r ≡ n * k / d ⌝ }
 {
-    n / d * k + n % d * k / d
+    round_down(n, d) * k + round_down(n % d * k, d)
 }

@@ -12,3 +12,9 @@ pub struct Cm(pub u64);
 pub struct Kgf(pub u64);
 
 pub struct KgfPerM(pub u64);
+
+// A dowel's diameter is given in millimetres.
+pub struct Mm(pub u64);
+
+// A force that is not rounded to whole kgf: hundredths of a kgf.
+pub struct CentiKgf(pub u64);

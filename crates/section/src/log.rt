@@ -55,10 +55,20 @@ pub fn log_modulus(net: Cm) -> u64
     MODULUS[at]
 }
 
+// Logs that lie one on another in tiers, each of this diameter, with the rot of the top one.
+pub struct Log {
+    pub diameter: Cm,
+    pub rot: Cm,
+    pub tiers: u64,
+}
+
 // The top log is decayed, the others sound.
-pub fn tiered_modulus(diameter: Cm, rot: Cm, tiers: u64) -> u64
-    requires { ⌜ (diameter .0 ≤ 39) × (rot .0 ≤ 60) × (1 ≤ tiers) × (tiers ≤ 3) ⌝ }
-    ensures { λ r. ⌜ r ≡ tieredModulus (diameter .0) (rot .0) tiers ⌝ }
+pub fn tiered_modulus(s: Log) -> u64
+    requires { ⌜ (s .diameter .0 ≤ 39) × (s .rot .0 ≤ 60) × (1 ≤ s .tiers) × (s .tiers ≤ 3) ⌝ }
+    ensures { λ r. ⌜ r ≡ tieredModulus (s .diameter .0) (s .rot .0) (s .tiers) ⌝ }
 {
+    let diameter = s.diameter;
+    let rot = s.rot;
+    let tiers = s.tiers;
     log_modulus(net_diameter(diameter, rot)) + (tiers - 1) * log_modulus(diameter)
 }

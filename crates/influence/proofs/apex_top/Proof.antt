@@ -5,7 +5,8 @@ use Prim.Native.Nat.{_≤_, _+_, _-_}
 use mathlib.Core.Path.{_≡_, refl}
 use native.Mathlib.Omega.{arith}
 use borrow.Author.Needs.{needs}
-use Rattle.influence.specs.Influence.{total, weight, behind}
+use Rattle.section.specs.Units.{weight}
+use Rattle.influence.specs.Influence.{total, behind}
 use Rattle.influence.specs.Scaled.{top, apexTop}
 use Rattle.influence.proofs.Steps.{passed, passed-next, passed-cap, bounded-ahead, behind-passed, topOf, top-next}
 use Rattle.influence.proofs.apex_top.Statement.{statement}
@@ -25,21 +26,21 @@ unfolding top total
 loop-holds c = (refl, omega arith, omega arith)
 
 distance-of-requires : tie.Need-distance-of-requires Inv-loop μ-loop
-distance-of-requires c κs = (omega arith, c .before .before .pre .distance (c .before .loop .j) (omega arith))
+distance-of-requires c κs = (omega arith, c .before .before .pre .distances (c .before .loop .j) (omega arith))
 
 add-place : tie.Need-add-place Inv-loop μ-loop
 add-place c =
     let at = c .before .before .before .before in
     record {
       fits =
-          omega (arith, passed-cap (at .before .pre) (at .loop .j) (omega arith), at .before .pre .distance (at .loop .j) (omega arith));
+          omega (arith, passed-cap (at .before .pre) (at .loop .j) (omega arith), at .before .pre .distances (at .loop .j) (omega arith));
     }
 
 sum-at-requires : tie.Need-sum-at-requires Inv-loop μ-loop
 sum-at-requires c κs = bounded-ahead (c .before .before .before .before .before .pre) _ (omega arith)
 
-heavier-requires : tie.Need-heavier-requires Inv-loop μ-loop
-heavier-requires c κs = search needs
+greater-requires : tie.Need-greater-requires Inv-loop μ-loop
+greater-requires c κs = search needs
 
 add-j : tie.Need-add-j Inv-loop μ-loop
 add-j c = search needs
@@ -51,11 +52,11 @@ loop-again : tie.Need-loop-again Inv-loop μ-loop
 loop-again c =
     let at = c .before .before .before .before .before .before in
     let args = at .before .args in (
-      top-next _ _ (weight (args .weights .now)) (behind (args .distances .now)) _ (at .loop .j)
-          (c .heavier .ensures) (at .loop .inv .0) (c .before .sum-at .ensures)
-          (omega (arith, behind-passed (args .distances .now) (at .loop .j))),
+      top-next _ _ (weight (args .weights)) (behind (args .distances)) _ (at .loop .j)
+          (c .greater .ensures) (at .loop .inv .0) (c .before .sum-at .ensures)
+          (omega (arith, behind-passed (args .distances) (at .loop .j))),
       omega arith,
-      omega (arith, passed-next (args .distances .now) (at .loop .j)),
+      omega (arith, passed-next (args .distances) (at .loop .j)),
     )
 
 returns : tie.Need-returns Inv-loop μ-loop
@@ -74,7 +75,7 @@ apex-top-spec =
     distance-of-requires
     add-place
     sum-at-requires
-    heavier-requires
+    greater-requires
     add-j
     loop-less
     loop-again

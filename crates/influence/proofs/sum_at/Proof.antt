@@ -5,7 +5,8 @@ use Prim.Native.Nat.{_≤_, _+_, _*_, _-_}
 use mathlib.Core.Path.{_≡_, refl, sym, _∙_}
 use native.Mathlib.Omega.{arith}
 use borrow.Author.Needs.{needs}
-use Rattle.influence.specs.Influence.{total, weight, behind}
+use Rattle.section.specs.Units.{weight}
+use Rattle.influence.specs.Influence.{total, behind}
 use Rattle.influence.specs.Scaled.{scaledSum}
 use Rattle.section.proofs.Products.{product-fits}
 use Rattle.influence.proofs.Steps.{passed, passed-next, behind-passed, sum-next, sum-rest, height-cap, sum-cap}
@@ -25,7 +26,7 @@ unfolding scaledSum total
 loop-holds c = (omega arith, refl, omega arith)
 
 distance-of-requires : tie.Need-distance-of-requires Inv-loop μ-loop
-distance-of-requires c κs = (omega arith, c .before .before .pre .distance (c .before .loop .i) (omega arith))
+distance-of-requires c κs = (omega arith, c .before .before .pre .distances (c .before .loop .i) (omega arith))
 
 beyond-requires : tie.Need-beyond-requires Inv-loop μ-loop
 beyond-requires c κs = search needs
@@ -37,8 +38,8 @@ returns c =
     let args = at .before .args in
     at .loop .inv .1 ∙
     sym
-    (sum-rest _ _ (weight (args .weights .now)) (args .distances .now) (at .loop .i) (args .axles) (args .front .0) (omega arith)
-    (omega (arith, behind-passed (args .distances .now) (at .loop .i), c .before .before .beyond .ensures, c .before .before .before .distance-of .ensures, c .if1 .taken)))
+    (sum-rest _ _ (weight (args .weights)) (args .distances) (at .loop .i) (args .axles) (args .front .0) (omega arith)
+    (omega (arith, behind-passed (args .distances) (at .loop .i), c .before .before .beyond .ensures, c .before .before .before .distance-of .ensures, c .if1 .taken)))
 
 weight-of-requires : tie.Need-weight-of-requires Inv-loop μ-loop
 weight-of-requires c κs = omega arith
@@ -50,7 +51,7 @@ mul-sum : tie.Need-mul-sum Inv-loop μ-loop
 mul-sum c =
     let at = c .before .before .before .before .before .before .before .before in
     product-fits 200000 100000000 tt
-    (omega (arith, at .before .pre .weight (at .loop .i) (omega arith)))
+    (omega (arith, at .before .pre .weights (at .loop .i) (omega arith)))
     (rw (c .before .scaled-height .ensures) (height-cap _ (omega arith) (omega arith)))
 
 -- the sum with one axle more, whose place is that of the front axle less all the distances to it
@@ -59,13 +60,13 @@ sum-of :
     let at = c .before .before .before .before .before .before .before .before in
     let args = at .before .args in
     at .loop .sum + c .before .before .weight-of .result .0 * c .before .scaled-height .result ≡
-    scaledSum (args .base .0) (args .apex .0) (weight (args .weights .now)) (behind (args .distances .now)) (at .loop .i + 1) (args .front .0)
+    scaledSum (args .base .0) (args .apex .0) (weight (args .weights)) (behind (args .distances)) (at .loop .i + 1) (args .front .0)
 sum-of c =
     let at = c .before .before .before .before .before .before .before .before in
     let args = at .before .args in
-    sum-next _ _ (weight (args .weights .now)) (behind (args .distances .now)) (at .loop .i) _
+    sum-next _ _ (weight (args .weights)) (behind (args .distances)) (at .loop .i) _
     (at .loop .inv .1) (c .before .before .weight-of .ensures) (c .before .scaled-height .ensures)
-    (omega (arith, behind-passed (args .distances .now) (at .loop .i)))
+    (omega (arith, behind-passed (args .distances) (at .loop .i)))
 
 add-sum : tie.Need-add-sum Inv-loop μ-loop
 add-sum c =
@@ -81,7 +82,7 @@ loop-less c = search needs
 loop-again : tie.Need-loop-again Inv-loop μ-loop
 loop-again c =
     let at = c .before .before .before .before .before .before .before .before in
-    (omega arith, sum-of c, omega (arith, passed-next (at .before .args .distances .now) (at .loop .i)))
+    (omega arith, sum-of c, omega (arith, passed-next (at .before .args .distances) (at .loop .i)))
 
 returns-2 : tie.Need-returns-2 Inv-loop μ-loop
 returns-2 c =

@@ -1,4 +1,4 @@
--- `influence::vehicle_load` meets its contract: the heavier of the two directions is the greatest of all positions (Load,
+-- `influence::vehicle_load` meets its contract: the greater of the two directions is the greatest of all positions (Load,
 -- Greatest), rounded up.
 -- Assumes nothing.
 use native.Mathlib.Omega.{arith}
@@ -15,23 +15,22 @@ apex-top-requires : tie.Need-apex-top-requires
 apex-top-requires c κs = search needs
 
 other-top-requires : tie.Need-other-top-requires
-other-top-requires c κs =
-    (mirrored-bounded (c .before .before .before .before .before .before .before .pre), c .before .before .apex-top .ensures)
+other-top-requires c κs = (mirrored-bounded (c .before .before .before .pre), c .apex-top .ensures)
 
-heavier-requires : tie.Need-heavier-requires
-heavier-requires c κs = search needs
+greater-requires : tie.Need-greater-requires
+greater-requires c κs = search needs
 
 per-metre-requires : tie.Need-per-metre-requires
 per-metre-requires c κs =
-    let pre = c .before .before .before .before .before .before .before .before .before .pre in
+    let pre = c .before .before .before .before .before .pre in
     (pre .triangle, pre .base, omega (arith, apex-top-cap pre, apex-top-cap (mirrored-bounded pre)))
 
 returns : tie.Need-returns
 returns c =
-    let start = c .before .before .before .before .before .before .before .before .before .before in
-    load-from-tops (start .args .t4) (start .args .t5) (start .args .axles) (start .pre .triangle)
-    (c .per-metre .ensures) (c .before .heavier .ensures) (c .before .before .before .before .before .apex-top .ensures)
-    (c .before .before .other-top .ensures)
+    let tops = c .before .before .before in
+    let start = tops .before .before .before in
+    load-from-tops (start .args .weights) (start .args .distances) (start .args .axles) (start .pre .triangle)
+    (c .per-metre .ensures) (c .before .greater .ensures) (tops .apex-top .ensures) (c .before .before .other-top .ensures)
 
 pub vehicle-load-spec : {M : Type 1} → statement M
 vehicle-load-spec =
@@ -40,6 +39,6 @@ vehicle-load-spec =
     sub-other-end
     apex-top-requires
     other-top-requires
-    heavier-requires
+    greater-requires
     per-metre-requires
     returns)

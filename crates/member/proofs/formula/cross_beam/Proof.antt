@@ -4,6 +4,7 @@ use Prim.Native.Nat.{_*_}
 use mathlib.Core.Path.{sym}
 use native.Mathlib.Nat.{mul-pos}
 use native.Mathlib.Omega.{arith}
+use Rattle.section.specs.Fraction.{over, floor}
 use Rattle.section.proofs.Products.{product-fits, product-cap}
 use Rattle.member.proofs.Whole.{cross-beam-whole}
 use borrow.Author.Needs.{needs}
@@ -28,24 +29,25 @@ mul-less-4 c = product-fits 360000 (5000 * 5000) tt (omega arith) (product-cap 5
 less-requires : tie.Need-less-requires
 less-requires c κs = search needs
 
-mul-t13 : tie.Need-mul-t13
-mul-t13 c = search needs
+mul-round-down : tie.Need-mul-round-down
+mul-round-down c = search needs
 
-mul-t14 : tie.Need-mul-t14
-mul-t14 c = product-fits 5000 5000 tt (omega arith) (omega arith)
+mul-round-down-2 : tie.Need-mul-round-down-2
+mul-round-down-2 c = product-fits 5000 5000 tt (omega arith) (omega arith)
 
-mul-t15 : tie.Need-mul-t15
-mul-t15 c = product-fits 42 (5000 * 5000) tt (omega arith) (product-cap 5000 5000 (omega arith) (omega arith))
+mul-round-down-3 : tie.Need-mul-round-down-3
+mul-round-down-3 c = product-fits 42 (5000 * 5000) tt (omega arith) (product-cap 5000 5000 (omega arith) (omega arith))
 
-div-t16 : tie.Need-div-t16
-div-t16 c =
+round-down-requires : tie.Need-round-down-requires
+round-down-requires c κs =
     let p = c .before .before .before .before .before .pre in
     mul-pos (omega (arith, p .1 .load-factor-low)) (mul-pos (p .2 .low) (p .1 .span-low))
 
 returns : tie.Need-returns
+unfolding over floor
 returns c =
-    let a = c .before .before .before .before .before .args in
-    rw (c .before .before .less .ensures)
+    let a = c .before .before .before .before .before .before .args in
+    rw (c .round-down .ensures .0, c .before .before .before .less .ensures)
     (sym (cross-beam-whole (a .w) (a .k) (a .n) (a .q .0) (a .l .0) (a .x .0) (omega arith) (omega arith) (omega arith)))
 
 pub cross-beam-spec : {M : Type 1} → statement M
@@ -58,8 +60,8 @@ cross-beam-spec =
     mul-less-3
     mul-less-4
     less-requires
-    mul-t13
-    mul-t14
-    mul-t15
-    div-t16
+    mul-round-down
+    mul-round-down-2
+    mul-round-down-3
+    round-down-requires
     returns)

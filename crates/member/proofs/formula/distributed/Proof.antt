@@ -4,6 +4,7 @@ use Prim.Native.Nat.{_*_, _/_, _≤_}
 use mathlib.Core.Path.{_≡_, ap, _∙_}
 use native.Mathlib.Nat.{div-div-eq-div-mul}
 use native.Mathlib.Omega.{arith}
+use Rattle.section.specs.Fraction.{over, floor}
 use Rattle.member.proofs.Divisors.{Divisor, divisor}
 use borrow.Author.Needs.{needs}
 use Rattle.member.proofs.formula.distributed.Statement.{statement}
@@ -27,15 +28,15 @@ mul-quotient c = omega (arith, spread c)
 quotient-requires : tie.Need-quotient-requires
 quotient-requires c κs = (spread c .above-0, spread c .at-least, spread c .fits)
 
-div-t11 : tie.Need-div-t11
-div-t11 c = search needs
+round-down-requires : tie.Need-round-down-requires
+round-down-requires c κs = search needs
 
 returns : tie.Need-returns
+unfolding over floor
 returns c =
-    let a = c .before .before .before .args in
-    rw (c .quotient .ensures, c .before .before .lesser .ensures) (div-div-eq-div-mul _ _ _)
+    rw (c .round-down .ensures .0, c .before .quotient .ensures, c .before .before .before .lesser .ensures) (div-div-eq-div-mul _ _ _)
 
 pub distributed-spec : {M : Type 1} → statement M
 distributed-spec =
     tie.close
-    (tie.spec lesser-requires mul-k sub-quotient mul-quotient quotient-requires div-t11 returns)
+    (tie.spec lesser-requires mul-k sub-quotient mul-quotient quotient-requires round-down-requires returns)

@@ -3,69 +3,76 @@
 use native.Mathlib.Omega.{arith}
 use mathlib.Core.Path.{refl}
 use Rattle.section.specs.Fraction.{over}
-use Rattle.section.proofs.Order.{tenths-sound, hundredths-sound}
-use Rattle.member.specs.Fields.{SPAN, field}
+use Rattle.section.proofs.Order.{over-sound, tenths-sound, hundredths-sound}
 use Rattle.member.specs.Format.{used, unusedByKind, unusedByCode, suits, bending}
 use Rattle.member.proofs.EachKind.{cross-beam-valid, cross-beam-same, whole-positive}
-use Rattle.section.proofs.Order.{over-sound}
 use Rattle.member.proofs.Quantities.{sizes, species, panel, span-positive, load-factor-positive, valid-cross-beam}
 use Rattle.member.proofs.Falling.{cross-beam-load}
 use borrow.Author.Needs.{needs}
 use Rattle.member.proofs.permitted.cross_beam_load.Statement.{statement}
 use Rattle.member.proofs.permitted.cross_beam_load.Tie as tie
 
-number-requires : tie.Need-number-requires
-number-requires c κs = search needs
-
 modulus-sixths-requires : tie.Need-modulus-sixths-requires
 modulus-sixths-requires c κs = search needs
 
 bending-requires : tie.Need-bending-requires
 unfolding used unusedByKind unusedByCode bending suits
-bending-requires c κs = let p = c .before .before .pre in species (p .0) 2 (p .1) refl
+bending-requires c κs = let p = c .before .pre in species (p .0) 2 (p .1) refl
 
 load-factor-requires : tie.Need-load-factor-requires
 load-factor-requires c κs = search needs
 
-length-requires : tie.Need-length-requires
-length-requires c κs = search needs
+dead-load-requires : tie.Need-dead-load-requires
+dead-load-requires c κs = search needs
 
-length-requires-2 : tie.Need-length-requires-2
-length-requires-2 c κs = search needs
+span-requires : tie.Need-span-requires
+span-requires c κs = search needs
+
+distance-requires : tie.Need-distance-requires
+distance-requires c κs = search needs
 
 cross-beam-requires : tie.Need-cross-beam-requires
 unfolding used unusedByKind unusedByCode bending suits
-cross-beam-requires c κs = let p = c .before .before .before .before .before .before .pre in omega (arith, sizes (p .0) 0 11 (omega arith) (omega arith), panel (p .0) (p .1), c .before .before .before .before .modulus-sixths .ensures .1, c .before .before .before .bending .ensures .1, c .before .before .load-factor .ensures .1)
+cross-beam-requires c κs =
+    let p = c .before .before .before .before .before .before .pre in
+    omega (
+      arith,
+      sizes (p .0) 0 11 (omega arith) (omega arith),
+      panel (p .0) (p .1),
+      c .before .before .before .before .before .modulus-sixths .ensures .1,
+      c .before .before .before .before .bending .ensures .1,
+      c .before .before .before .load-factor .ensures .1,
+    )
 
 returns : tie.Need-returns
 unfolding used unusedByKind unusedByCode bending suits
-returns c =
+returns c track =
     let a = c .before .before .before .before .before .before .before .args in
     let p = c .before .before .before .before .before .before .before .pre in
     rw (
       c .cross-beam .ensures,
-      c .before .before .before .before .bending .ensures .0,
-      c .before .before .before .load-factor .ensures .0,
-      c .before .before .before .before .before .before .number .ensures,
-      c .before .before .length .ensures,
-      c .before .length2 .ensures,
-      cross-beam-load (a .m) (a .class) (a .track .0) (p .1),
+      c .before .before .before .before .before .bending .ensures .0,
+      c .before .before .before .before .load-factor .ensures .0,
+      c .before .before .before .dead-load .ensures,
+      c .before .before .span .ensures,
+      c .before .distance .ensures,
+      cross-beam-load (a .m) (a .class) track (p .1),
     )
     (cross-beam-same _ _ _ _ _
     (cross-beam-valid (over-sound _ 6 (omega arith)) (tenths-sound _) (load-factor-positive (a .class)) (hundredths-sound _) (span-positive (p .0))
     (whole-positive _ (panel (p .0) (p .1) .low)))
-    (valid-cross-beam (p .0) (a .class) (a .track .0) (p .1))
-    (c .before .before .before .before .before .modulus-sixths .ensures .0))
+    (valid-cross-beam (p .0) (a .class) track (p .1))
+    (c .before .before .before .before .before .before .modulus-sixths .ensures .0))
 
 pub cross-beam-load-spec : {M : Type 1} → statement M
 cross-beam-load-spec =
     tie.close
     (tie.spec
-    number-requires
     modulus-sixths-requires
     bending-requires
     load-factor-requires
-    length-requires
-    length-requires-2
+    dead-load-requires
+    span-requires
+    distance-requires
     cross-beam-requires
     returns)

@@ -20,14 +20,14 @@ use Rattle.member.proofs.permitted.joint_front.Tie as tie
 number-requires : tie.Need-number-requires
 number-requires c κs = search needs
 
-length-requires : tie.Need-length-requires
-length-requires c κs = search needs
+height-requires : tie.Need-height-requires
+height-requires c κs = search needs
 
 number-requires-2 : tie.Need-number-requires-2
 number-requires-2 c κs = search needs
 
-capacity-hundredths-requires : tie.Need-capacity-hundredths-requires
-capacity-hundredths-requires c κs = search needs
+capacity-requires : tie.Need-capacity-requires
+capacity-requires c κs = search needs
 
 four : (c : tie.Then1) → field (c .before .before .before .before .args .m) KIND ≡ 4
 four c = sym (c .before .before .before .number .ensures) ∙ c .if1 .taken
@@ -49,16 +49,16 @@ number-requires-3 c κs = search needs
 
 dowelled-requires : tie.Need-dowelled-requires
 unfolding used unusedByKind unusedByCode bending suits
-dowelled-requires c κs = let p = c .before .before .before .before .before .before .before .pre in let e = four (c .before .before .before) in omega (arith, height (p .0) 4 e refl, dowel-sizes (p .0) e, joint (p .0) (p .1) .ratio, c .before .before .capacity-hundredths .ensures .1, c .before .bending .ensures .1)
+dowelled-requires c κs = let p = c .before .before .before .before .before .before .before .pre in let e = four (c .before .before .before) in omega (arith, height (p .0) 4 e refl, dowel-sizes (p .0) e, joint (p .0) (p .1) .ratio, c .before .before .capacity .ensures .1, c .before .bending .ensures .1)
 
 returns : tie.Need-returns
 unfolding jointFront
 returns c =
     let a = c .before .before .before .before .before .before .before .before .args in
     rw (eq-eqb (field (a .m) KIND) 4 (four (c .before .before .before .before)))
-    (rw (c .before .before .before .before .before .before .length .ensures, c .before .before .before .before .before .number2 .ensures, c .before .number3 .ensures, c .before .before .bending .ensures .0)
+    (rw (c .before .before .before .before .before .before .height .ensures, c .before .before .before .before .before .number2 .ensures, c .before .number3 .ensures, c .before .before .bending .ensures .0)
     at
-    (dowelled-same _ _ _ _ (whole-sound _) (tenths-sound _) (whole-sound _) (c .before .before .before .capacity-hundredths .ensures .0) (c .dowelled .ensures)))
+    (dowelled-same _ _ _ _ (whole-sound _) (tenths-sound _) (whole-sound _) (c .before .before .before .capacity .ensures .0) (c .dowelled .ensures)))
 
 joint-area-requires : tie.Need-joint-area-requires
 joint-area-requires c κs = search needs
@@ -76,7 +76,7 @@ unfolding jointFront
 returns-2 c =
     let a = c .before .before .before .before .before .before .before .before .args in
     rw (ne-eqb (field (a .m) KIND) 4 (omega (arith, five (c .before .before .before))), eq-eqb (field (a .m) KIND) 5 (five (c .before .before .before)))
-    (rw (c .before .before .before .before .before .before .length .ensures, c .before .before .before .before .before .number2 .ensures, c .before .before .joint-area .ensures .0, c .before .shear .ensures .0)
+    (rw (c .before .before .before .before .before .before .height .ensures, c .before .before .before .before .before .number2 .ensures, c .before .before .joint-area .ensures .0, c .before .shear .ensures .0)
     at (c .keyed .ensures))
 
 joint-area-requires-2 : tie.Need-joint-area-requires-2
@@ -91,16 +91,16 @@ unfolding jointFront
 returns-3 c =
     let a = c .before .before .before .before .before .before .before .args in
     rw (ne-eqb (field (a .m) KIND) 4 (omega (arith, six (c .before .before))), ne-eqb (field (a .m) KIND) 5 (omega (arith, six (c .before .before))))
-    (rw (c .before .before .before .before .before .length .ensures, c .before .before .before .before .number2 .ensures, c .before .joint-area2 .ensures .0) at (c .plates .ensures))
+    (rw (c .before .before .before .before .before .height .ensures, c .before .before .before .before .number2 .ensures, c .before .joint-area2 .ensures .0) at (c .plates .ensures))
 
 pub joint-front-spec : {M : Type 1} → statement M
 joint-front-spec =
     tie.close
     (tie.spec
     number-requires
-    length-requires
+    height-requires
     number-requires-2
-    capacity-hundredths-requires
+    capacity-requires
     bending-requires
     number-requires-3
     dowelled-requires

@@ -2,20 +2,15 @@
 -- Assumes nothing.
 use Prim.Native.Nat.{_*_}
 use native.Mathlib.Omega.{arith}
-use Rattle.section.specs.Fraction.{over}
-use Rattle.section.proofs.Order.{tenths-sound, hundredths-sound}
+use Rattle.section.specs.Fraction.{over, whole}
+use Rattle.section.proofs.Order.{over-sound, hundredths-sound}
 use Rattle.member.specs.Fields.{SPAN, MU-B, field}
-use Rattle.section.specs.Fraction.{whole}
 use Rattle.member.proofs.EachKind.{joint-valid, joint-same, over-positive, rest-positive, whole-positive}
-use Rattle.section.proofs.Order.{over-sound}
 use Rattle.member.proofs.Quantities.{sizes, load-factor-positive, distribution-positive, valid-joint}
 use Rattle.member.proofs.Falling.{joint, joint-load}
 use borrow.Author.Needs.{needs}
 use Rattle.member.proofs.permitted.joint_load.Statement.{statement}
 use Rattle.member.proofs.permitted.joint_load.Tie as tie
-
-number-requires : tie.Need-number-requires
-number-requires c κs = search needs
 
 joint-front-requires : tie.Need-joint-front-requires
 joint-front-requires c κs = search needs
@@ -23,23 +18,28 @@ joint-front-requires c κs = search needs
 load-factor-requires : tie.Need-load-factor-requires
 load-factor-requires c κs = search needs
 
+dead-load-requires : tie.Need-dead-load-requires
+dead-load-requires c κs = search needs
+
+number-requires : tie.Need-number-requires
+number-requires c κs = search needs
+
 number-requires-2 : tie.Need-number-requires-2
 number-requires-2 c κs = search needs
 
-number-requires-3 : tie.Need-number-requires-3
-number-requires-3 c κs = search needs
+span-requires : tie.Need-span-requires
+span-requires c κs = search needs
 
-length-requires : tie.Need-length-requires
-length-requires c κs = search needs
+distance-requires : tie.Need-distance-requires
+distance-requires c κs = search needs
 
-length-requires-2 : tie.Need-length-requires-2
-length-requires-2 c κs = search needs
-
-length-requires-3 : tie.Need-length-requires-3
-length-requires-3 c κs = search needs
+spacing-requires : tie.Need-spacing-requires
+spacing-requires c κs = search needs
 
 joint-requires : tie.Need-joint-requires
-joint-requires c κs = let p = c .before .before .before .before .before .before .before .before .pre in omega (arith, sizes (p .0) 0 11 (omega arith) (omega arith), joint (p .0) (p .1), c .before .before .before .before .before .load-factor .ensures .1)
+joint-requires c κs =
+    let p = c .before .before .before .before .before .before .before .before .pre in
+    omega (arith, sizes (p .0) 0 11 (omega arith) (omega arith), joint (p .0) (p .1), c .before .before .before .before .before .before .load-factor .ensures .1)
 
 returns : tie.Need-returns
 returns c =
@@ -48,13 +48,13 @@ returns c =
     let j = joint (p .0) (p .1) in
     rw (
       c .joint .ensures,
-      c .before .before .before .before .before .before .load-factor .ensures .0,
-      c .before .before .before .before .before .before .before .before .number .ensures,
-      c .before .before .before .before .before .number2 .ensures,
-      c .before .before .before .before .number3 .ensures,
-      c .before .before .before .length .ensures,
-      c .before .before .length2 .ensures,
-      c .before .length3 .ensures,
+      c .before .before .before .before .before .before .before .load-factor .ensures .0,
+      c .before .before .before .before .before .before .dead-load .ensures,
+      c .before .before .before .before .before .number .ensures,
+      c .before .before .before .before .number2 .ensures,
+      c .before .before .before .span .ensures,
+      c .before .before .distance .ensures,
+      c .before .spacing .ensures,
       joint-load (a .m) (a .class) (a .track .0) (p .1),
     )
     (joint-same _ _ _ _ _ _
@@ -64,19 +64,19 @@ returns c =
     (whole-positive _ (j .distance .low))
     (distribution-positive _ (a .track .0) (j .spaced .low)))
     (valid-joint (p .0) (a .class) (a .track .0) (j .distance) (j .spaced) (j .ratio))
-    (c .before .before .before .before .before .before .before .joint-front .ensures))
+    (c .before .before .before .before .before .before .before .before .joint-front .ensures))
 
 pub joint-load-spec : {M : Type 1} → statement M
 joint-load-spec =
     tie.close
     (tie.spec
-    number-requires
     joint-front-requires
     load-factor-requires
+    dead-load-requires
+    number-requires
     number-requires-2
-    number-requires-3
-    length-requires
-    length-requires-2
-    length-requires-3
+    span-requires
+    distance-requires
+    spacing-requires
     joint-requires
     returns)

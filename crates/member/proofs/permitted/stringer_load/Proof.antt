@@ -3,39 +3,46 @@
 use native.Mathlib.Omega.{arith}
 use mathlib.Core.Path.{refl}
 use Rattle.section.specs.Fraction.{over}
-use Rattle.section.proofs.Order.{tenths-sound, hundredths-sound}
-use Rattle.member.specs.Fields.{SPAN, field}
+use Rattle.section.proofs.Order.{over-sound, tenths-sound, hundredths-sound}
 use Rattle.member.specs.Format.{used, unusedByKind, unusedByCode, suits, bending}
 use Rattle.member.proofs.EachKind.{stringer-valid, stringer-same}
-use Rattle.section.proofs.Order.{over-sound}
 use Rattle.member.proofs.Quantities.{sizes, species, spacing, span-positive, load-factor-positive, distribution-positive, valid-stringer}
 use Rattle.member.proofs.Falling.{stringer-load}
 use borrow.Author.Needs.{needs}
 use Rattle.member.proofs.permitted.stringer_load.Statement.{statement}
 use Rattle.member.proofs.permitted.stringer_load.Tie as tie
 
-number-requires : tie.Need-number-requires
-number-requires c κs = search needs
-
 modulus-sixths-requires : tie.Need-modulus-sixths-requires
 modulus-sixths-requires c κs = search needs
 
 bending-requires : tie.Need-bending-requires
 unfolding used unusedByKind unusedByCode bending suits
-bending-requires c κs = let p = c .before .before .pre in species (p .0) 1 (p .1) refl
+bending-requires c κs = let p = c .before .pre in species (p .0) 1 (p .1) refl
 
 load-factor-requires : tie.Need-load-factor-requires
 load-factor-requires c κs = search needs
 
-length-requires : tie.Need-length-requires
-length-requires c κs = search needs
+dead-load-requires : tie.Need-dead-load-requires
+dead-load-requires c κs = search needs
 
-length-requires-2 : tie.Need-length-requires-2
-length-requires-2 c κs = search needs
+span-requires : tie.Need-span-requires
+span-requires c κs = search needs
+
+spacing-requires : tie.Need-spacing-requires
+spacing-requires c κs = search needs
 
 stringer-requires : tie.Need-stringer-requires
 unfolding used unusedByKind unusedByCode bending suits
-stringer-requires c κs = let p = c .before .before .before .before .before .before .pre in omega (arith, sizes (p .0) 0 11 (omega arith) (omega arith), spacing (p .0) 1 (p .1) refl, c .before .before .before .before .modulus-sixths .ensures .1, c .before .before .before .bending .ensures .1, c .before .before .load-factor .ensures .1)
+stringer-requires c κs =
+    let p = c .before .before .before .before .before .before .pre in
+    omega (
+      arith,
+      sizes (p .0) 0 11 (omega arith) (omega arith),
+      spacing (p .0) 1 (p .1) refl,
+      c .before .before .before .before .before .modulus-sixths .ensures .1,
+      c .before .before .before .before .bending .ensures .1,
+      c .before .before .before .load-factor .ensures .1,
+    )
 
 returns : tie.Need-returns
 unfolding used unusedByKind unusedByCode bending suits
@@ -44,28 +51,28 @@ returns c =
     let p = c .before .before .before .before .before .before .before .pre in
     rw (
       c .stringer .ensures,
-      c .before .before .before .before .bending .ensures .0,
-      c .before .before .before .load-factor .ensures .0,
-      c .before .before .before .before .before .before .number .ensures,
-      c .before .before .length .ensures,
-      c .before .length2 .ensures,
+      c .before .before .before .before .before .bending .ensures .0,
+      c .before .before .before .before .load-factor .ensures .0,
+      c .before .before .before .dead-load .ensures,
+      c .before .before .span .ensures,
+      c .before .spacing .ensures,
       stringer-load (a .m) (a .class) (a .track .0) (p .1),
     )
     (stringer-same _ _ _ _ _
     (stringer-valid (over-sound _ 6 (omega arith)) (tenths-sound _) (load-factor-positive (a .class)) (hundredths-sound _) (span-positive (p .0))
     (distribution-positive _ (a .track .0) (spacing (p .0) 1 (p .1) refl .low)))
     (valid-stringer (p .0) (a .class) (a .track .0) (p .1))
-    (c .before .before .before .before .before .modulus-sixths .ensures .0))
+    (c .before .before .before .before .before .before .modulus-sixths .ensures .0))
 
 pub stringer-load-spec : {M : Type 1} → statement M
 stringer-load-spec =
     tie.close
     (tie.spec
-    number-requires
     modulus-sixths-requires
     bending-requires
     load-factor-requires
-    length-requires
-    length-requires-2
+    dead-load-requires
+    span-requires
+    spacing-requires
     stringer-requires
     returns)

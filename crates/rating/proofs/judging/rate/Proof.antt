@@ -5,9 +5,6 @@ use Rattle.rating.proofs.Turns.{rating-is}
 use Rattle.rating.proofs.judging.rate.Statement.{statement}
 use Rattle.rating.proofs.judging.rate.Tie as tie
 
-track-of-requires : tie.Need-track-of-requires
-track-of-requires c κs = search needs
-
 permitted-load-requires : tie.Need-permitted-load-requires
 permitted-load-requires c κs = search needs
 
@@ -20,15 +17,13 @@ verdict-of-requires c κs = search needs
 returns : tie.Need-returns
 returns c =
     let start = c .before .before .before .before in
-    rating-is (start .args .m) (start .args .v) (c .before .before .permitted-load .ensures) (c .before .before .before .track-of .ensures)
-    (c .before .vehicle-load-on .ensures)
+    rating-is (start .args .m) (start .args .v) (c .before .before .permitted-load .ensures) (c .before .vehicle-load-on .ensures)
     (c .verdict-of .ensures)
 
 pub rate-spec : {M : Type 1} → statement M
 rate-spec =
     tie.close
     (tie.spec
-    track-of-requires
     permitted-load-requires
     vehicle-load-on-requires
     verdict-of-requires

@@ -12,18 +12,22 @@ use Rattle.rating.proofs.vehicle.apex_of.Tie as tie
 number-requires : tie.Need-number-requires
 number-requires c κs = search needs
 
-number-requires-2 : tie.Need-number-requires-2
-number-requires-2 c κs = search needs
+span-requires : tie.Need-span-requires
+span-requires c κs = search needs
+
+half-of-requires : tie.Need-half-of-requires
+half-of-requires c κs = search needs
 
 returns : tie.Need-returns
 returns c =
-    let at = c .before in
+    let at = c .before .before in
     let m = at .before .before .args .m in
-    c .number2 .ensures
+    c .half-of .ensures
+    ∙ c .before .span .ensures
     ∙ sym (apex-is-middle (field m KIND) (field m SPAN) (field m DISTANCE) (sym (at .before .number .ensures) ∙ at .if1 .taken))
 
-length-requires : tie.Need-length-requires
-length-requires c κs = search needs
+distance-requires : tie.Need-distance-requires
+distance-requires c κs = search needs
 
 -- past the branch the apex is at x
 at-distance : (c : tie.Else1) → let m = c .before .before .args .m in influenceLine m .apex ≡ 2 * field m DISTANCE
@@ -33,13 +37,13 @@ at-distance c =
 
 half-cm-requires : tie.Need-half-cm-requires
 half-cm-requires c κs =
-    subst⁻¹ (λ (x : ℕ). x ≤ 5000) (c .length .ensures) (distance-high (line-sized (c .before .before .before .pre)) (at-distance (c .before)))
+    subst⁻¹ (λ (x : ℕ). x ≤ 5000) (c .distance .ensures) (distance-high (line-sized (c .before .before .before .pre)) (at-distance (c .before)))
 
 returns-2 : tie.Need-returns-2
 returns-2 c =
-    c .half-cm .ensures ∙ ap (λ (x : ℕ). 2 * x) (c .before .length .ensures) ∙ sym (at-distance (c .before .before))
+    c .half-cm .ensures ∙ ap (λ (x : ℕ). 2 * x) (c .before .distance .ensures) ∙ sym (at-distance (c .before .before))
 
 pub apex-of-spec : {M : Type 1} → statement M
 apex-of-spec =
     tie.close
-    (tie.spec number-requires number-requires-2 returns length-requires half-cm-requires returns-2)
+    (tie.spec number-requires span-requires half-of-requires returns distance-requires half-cm-requires returns-2)

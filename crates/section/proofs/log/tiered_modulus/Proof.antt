@@ -14,7 +14,7 @@ net-diameter-requires c κs = search needs
 
 log-modulus-requires : tie.Need-log-modulus-requires
 log-modulus-requires c κs =
-    let a = c .before .args in
+    let a = c .before .before .before .args .s in
     omega (arith, c .net-diameter .ensures, net-diameter-cap (a .diameter .0) (a .rot .0))
 
 sub-result : tie.Need-sub-result
@@ -23,9 +23,9 @@ sub-result c = search needs
 log-modulus-requires-2 : tie.Need-log-modulus-requires-2
 log-modulus-requires-2 c κs = search needs
 
-tiers-fit : (c : tie.After-log-modulus2) → (c .before .before .before .args .tiers - 1) * c .log-modulus2 .result ≤ 11648
+tiers-fit : (c : tie.After-log-modulus2) → (c .before .before .before .before .before .args .s .tiers - 1) * c .log-modulus2 .result ≤ 11648
 tiers-fit c =
-    let a = c .before .before .before .args in
+    let a = c .before .before .before .before .before .args .s in
     tiers-cap (a .tiers) _ (omega arith)
     (omega (arith, c .log-modulus2 .ensures, log-modulus-cap (a .diameter .0) (omega arith)))
 
@@ -34,7 +34,7 @@ mul-result c = omega (arith, tiers-fit c)
 
 add-result : tie.Need-add-result
 add-result c =
-    let a = c .before .before .before .args in
+    let a = c .before .before .before .before .before .args .s in
     omega (
       arith,
       tiers-fit c,

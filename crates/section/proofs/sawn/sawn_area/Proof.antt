@@ -13,7 +13,7 @@ less-requires c κs = search needs
 less-requires-2 : tie.Need-less-requires-2
 less-requires-2 c κs = search needs
 
-sizes : (c : tie.After-less2) → BeamCaps (c .before .before .args .pieces) (c .before .less .result) (c .less2 .result)
+sizes : (c : tie.After-less2) → BeamCaps (c .before .before .args .s .pieces) (c .before .less .result) (c .less2 .result)
 sizes c = beam-caps _ _ _ (omega arith) (omega arith) (omega arith)
 
 mul-less : tie.Need-mul-less

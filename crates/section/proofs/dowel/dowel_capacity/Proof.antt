@@ -1,10 +1,10 @@
--- `section::dowel::dowel_capacity_hundredths` meets its contract: the tests on the type pick the case of `termOf`.
+-- `section::dowel::dowel_capacity` meets its contract: the tests on the type pick the case of `termOf`.
 -- Assumes nothing.
 use borrow.Author.Tests.{eq-eqb, ne-eqb}
 use Rattle.section.specs.Dowel.{termOf, dowelCapacity}
 use borrow.Author.Needs.{needs}
-use Rattle.section.proofs.dowel.dowel_capacity_hundredths.Statement.{statement}
-use Rattle.section.proofs.dowel.dowel_capacity_hundredths.Tie as tie
+use Rattle.section.proofs.dowel.dowel_capacity.Statement.{statement}
+use Rattle.section.proofs.dowel.dowel_capacity.Tie as tie
 
 less-requires : tie.Need-less-requires
 less-requires c κs = search needs
@@ -49,8 +49,8 @@ returns-3 c =
     )
     (c .least-term3 .ensures)
 
-pub dowel-capacity-hundredths-spec : {M : Type 1} → statement M
-dowel-capacity-hundredths-spec =
+pub dowel-capacity-spec : {M : Type 1} → statement M
+dowel-capacity-spec =
     tie.close
     (tie.spec
     less-requires
