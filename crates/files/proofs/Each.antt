@@ -6,8 +6,8 @@ use mathlib.Core.List.{List, [], _∷_, _++_, append-assoc}
 use native.Mathlib.Numerals.{add-one}
 use native.Mathlib.Omega.{arith}
 use native.Mathlib.Decide.{decLt}
-use lib.ListN.{length, getD, set, replicate, length-append, length-replicate, List·getD-append}
-use lib.Seq.{set-at, append-snoc, getD-at, ext-getD}
+use lib.ListN.{length, getD, set, replicate, length-append, List·getD-append}
+use lib.Seq.{set-at, append-snoc, getD-at}
 use Rattle.files.specs.Words.{each}
 
 module _ {ℓ} {X : Type ℓ} (f : ℕ → X) where
@@ -35,16 +35,7 @@ module _ {ℓ} {X : Type ℓ} (f : ℕ → X) where
       rw (add-one, left) (set-at (each f i) blank (replicate (room - suc i) blank) (f i) i (length-each i) ∙ sym (append-snoc (each f i) (f i) (replicate (room - suc i) blank)))
 
 module _ {ℓ} {X : Type ℓ} where
-  pub length-padded : (f : ℕ → X) (room n : ℕ) (blank : X) → n ≤ room → length (each f n ++ replicate (room - n) blank) ≡ room
-  length-padded f room n blank h = simp (length-append, length-each, length-replicate) (omega arith)
-
   pub getD-padded : (f : ℕ → X) (n i : ℕ) (pad : List X) (d : X) → i < n → getD (each f n ++ pad) i d ≡ f i
   getD-padded f n i pad d h =
       let within : i < length (each f n) = omega (arith, length-each f n) in
       List·getD-append (each f n) pad d i within ∙ getD-each f n i d h
-
-  -- a list is made of its own elements
-  pub each-own : (xs : List X) (n : ℕ) (d : X) → length xs ≡ n → each (λ i. getD xs i d) n ≡ xs
-  each-own xs n d e =
-      let same : length (each (λ i. getD xs i d) n) ≡ n = length-each (λ i. getD xs i d) n in
-      ext-getD d _ xs (same ∙ sym e) (λ i h. getD-each (λ k. getD xs k d) n i d (omega arith))

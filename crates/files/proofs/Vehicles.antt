@@ -6,8 +6,11 @@ use mathlib.Core.List.{List, [], _∷_}
 use mathlib.Core.Logic.{_⊎_, inl, inr, ⊎-elim, _↔_}
 use mathlib.Core.Bool.{Bool, true, false, _&&_, and-false}
 use native.Mathlib.Omega.{arith}
-use lib.ListN.{length, getD, replicate}
+use lib.ListN.{length, replicate}
 use borrow.Author.Tests.{ne-eqb}
+use Rattle.section.specs.Units.{centimetres, kgf, weight, distance}
+use Rattle.section.specs.declared.Cm.{Cm}
+use Rattle.section.specs.declared.Kgf.{Kgf}
 use Rattle.member.specs.declared.record.Vehicle.{Vehicle}
 use Rattle.member.specs.Format.{_‥_, In, classRange, trackRange, weightRange, laterRange, AllowedVehicle}
 use Rattle.files.specs.Words.{wordAt}
@@ -106,11 +109,11 @@ axle-clear bytes i w d = rw (range-in weightRange (weightAt bytes i) w, range-in
 
 module _ (bytes : List ℕ) where
   -- the vehicle's axles are the file's
-  weight-is : (i : ℕ) → i < axlesOf bytes → getD (vehicleOf bytes .weights) i 0 ≡ weightAt bytes i
-  weight-is i l = getD-padded (weightAt bytes) (axlesOf bytes) i (replicate (MOST-AXLES - axlesOf bytes) 0) 0 l
+  weight-is : (i : ℕ) → i < axlesOf bytes → weight (vehicleOf bytes .weights) i ≡ weightAt bytes i
+  weight-is i l = ap (λ (w : Kgf). w .0) (getD-padded (λ k. kgf (weightAt bytes k)) (axlesOf bytes) i (replicate (MOST-AXLES - axlesOf bytes) (kgf 0)) (kgf 0) l)
 
-  distance-is : (i : ℕ) → i < axlesOf bytes → getD (vehicleOf bytes .distances) i 0 ≡ distanceAt bytes i
-  distance-is i l = getD-padded (distanceAt bytes) (axlesOf bytes) i (replicate (MOST-AXLES - axlesOf bytes) 0) 0 l
+  distance-is : (i : ℕ) → i < axlesOf bytes → distance (vehicleOf bytes .distances) i ≡ distanceAt bytes i
+  distance-is i l = ap (λ (d : Cm). d .0) (getD-padded (λ k. centimetres (distanceAt bytes k)) (axlesOf bytes) i (replicate (MOST-AXLES - axlesOf bytes) (centimetres 0)) (centimetres 0) l)
 
   later-range : (i : ℕ) → 0 < i → axleRange i ≡ laterRange
   later-range i h = rw (ne-eqb i 0 (omega arith))
@@ -123,17 +126,17 @@ module _ (bytes : List ℕ) where
         class = h .class;
         track = h .track;
         axles = count;
-        weight = λ i l. rw (weight-is i l) (axle-ranges bytes i (clear i l) .0);
+        weights = λ i l. rw (weight-is i l) (axle-ranges bytes i (clear i l) .0);
         first = rw (distance-is 0 (omega arith)) (omega (arith, axle-ranges bytes 0 (clear 0 (omega arith)) .1));
-        distance = λ i z l. rw (distance-is i l) (rw (later-range i z) at (axle-ranges bytes i (clear i l) .1));
+        distances = λ i z l. rw (distance-is i l) (rw (later-range i z) at (axle-ranges bytes i (clear i l) .1));
       }
 
   vehicle-clear : AllowedVehicle (vehicleOf bytes) → (i : ℕ) → i < axlesOf bytes → axleFault bytes i ≡ 0
   vehicle-clear a zero l =
       let first = rw (distance-is 0 l) at (a .first) in
-      axle-clear bytes 0 (rw (weight-is 0 l) at (a .weight 0 l)) (omega arith)
+      axle-clear bytes 0 (rw (weight-is 0 l) at (a .weights 0 l)) (omega arith)
   vehicle-clear a (suc i) l =
-      axle-clear bytes (suc i) (rw (weight-is (suc i) l) at (a .weight (suc i) l)) (rw (later-range (suc i) (omega arith)) (rw (distance-is (suc i) l) at (a .distance (suc i) (omega arith) l)))
+      axle-clear bytes (suc i) (rw (weight-is (suc i) l) at (a .weights (suc i) l)) (rw (later-range (suc i) (omega arith)) (rw (distance-is (suc i) l) at (a .distances (suc i) (omega arith) l)))
 
   -- a file is taken exactly when it is allowed
   pub taken-allowed : readVehicle bytes .answer ≡ Taken → AllowedVehicleFile bytes
@@ -161,10 +164,10 @@ module _ (bytes : List ℕ) where
   unfolding readVehicle
   taken-vehicle e = rw e
 
-  pub taken-weight : readVehicle bytes .answer ≡ Taken → (i : ℕ) → i < axlesOf bytes → getD (readVehicle bytes .vehicle .weights) i 0 ≡ wordAt bytes (VEHICLE-HEADER + AXLE * i)
+  pub taken-weight : readVehicle bytes .answer ≡ Taken → (i : ℕ) → i < axlesOf bytes → weight (readVehicle bytes .vehicle .weights) i ≡ wordAt bytes (VEHICLE-HEADER + AXLE * i)
   taken-weight e i l = rw (taken-vehicle e) (weight-is i l)
 
-  pub taken-distance : readVehicle bytes .answer ≡ Taken → (i : ℕ) → i < axlesOf bytes → getD (readVehicle bytes .vehicle .distances) i 0 ≡ wordAt bytes (VEHICLE-HEADER + 2 + AXLE * i)
+  pub taken-distance : readVehicle bytes .answer ≡ Taken → (i : ℕ) → i < axlesOf bytes → distance (readVehicle bytes .vehicle .distances) i ≡ wordAt bytes (VEHICLE-HEADER + 2 + AXLE * i)
   taken-distance e i l = rw (taken-vehicle e) (distance-is i l)
 
   pub taken-sound : readVehicle bytes .answer ≡ Taken → AllowedVehicle (readVehicle bytes .vehicle)

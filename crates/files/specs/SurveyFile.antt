@@ -33,7 +33,7 @@ surveyHeader bytes = headerFault 82 SURVEY-HEADER MOST-MEMBERS RECORD bytes
 
 -- the record of index i, from 0
 abbrev pub recordAt : List ℕ → ℕ → Member
-recordAt bytes i = record { fields = words bytes (SURVEY-HEADER + RECORD * i) 2 FIELDS }
+recordAt bytes i = record { fields = words bytes (SURVEY-HEADER + RECORD * i) FIELDS }
 
 -- a field is 0 where the record does not use it
 unfoldable pub zeroed : Member → ℕ → Bool

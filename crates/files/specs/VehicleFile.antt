@@ -9,9 +9,10 @@ use lib.Dec.{eqb}
 use Rattle.member.specs.declared.record.Vehicle.{Vehicle}
 use Rattle.member.specs.Fields.{MOST-AXLES}
 use Rattle.section.specs.Choose.{choose}
+use Rattle.section.specs.Units.{centimetres, kgf}
 use Rattle.member.specs.Format.{Range, _‥_, classRange, trackRange, weightRange, laterRange}
 use Rattle.files.specs.Words.{byteAt, wordAt, each}
-use Rattle.files.specs.Reading.{_unless_, firstOf, firstFault, isIn}
+use Rattle.files.specs.Reading.{_unless_, firstOf, firstFault, isIn, all}
 use Rattle.files.specs.Header.{headerFault}
 use Rattle.files.specs.declared.Reading.{Reading}
 use Rattle.files.specs.declared.Reading.the-variants.{Taken, Refused}
@@ -53,8 +54,21 @@ vehicleHeader bytes =
 abbrev pub axleRange : ℕ → Range
 axleRange i = choose (eqb i 0) (0 ‥ 0) laterRange
 
+-- the fields of an axle: 0 the weight, 1 the distance, each with its range
+abbrev pub AXLE-FIELDS : ℕ
+AXLE-FIELDS = 2
+
+abbrev pub axleField : List ℕ → (i f : ℕ) → ℕ
+axleField bytes i f = choose (eqb f 0) (weightAt bytes i) (distanceAt bytes i)
+
+abbrev pub fieldRange : (i f : ℕ) → Range
+fieldRange i f = choose (eqb f 0) weightRange (axleRange i)
+
+abbrev pub fieldWithin : List ℕ → (i f : ℕ) → Bool
+fieldWithin bytes i f = isIn (fieldRange i f) (axleField bytes i f)
+
 unfoldable pub axleWithin : List ℕ → ℕ → Bool
-axleWithin bytes i = isIn weightRange (weightAt bytes i) && isIn (axleRange i) (distanceAt bytes i)
+axleWithin bytes i = all (fieldWithin bytes i) AXLE-FIELDS
 
 -- "7 a used number .. outside its range, .. or a first axle's distance other than 0"
 abbrev pub axleFault : List ℕ → ℕ → ℕ
@@ -70,17 +84,23 @@ vehicleAnswer bytes = firstFault 0 (vehicleHeader bytes ∷ axleFaults bytes (ax
 
 abbrev pub blankVehicle : Vehicle
 blankVehicle =
-    record { class = 0; track = 0; axles = 0; weights = replicate MOST-AXLES 0; distances = replicate MOST-AXLES 0 }
+    record {
+      class = 0;
+      track = centimetres 0;
+      axles = 0;
+      weights = replicate MOST-AXLES (kgf 0);
+      distances = replicate MOST-AXLES (centimetres 0);
+    }
 
 -- the file's numbers, and axles of 0 after them
 abbrev pub vehicleOf : List ℕ → Vehicle
 vehicleOf bytes =
     record {
       class = classOf bytes;
-      track = trackOf bytes;
+      track = centimetres (trackOf bytes);
       axles = axlesOf bytes;
-      weights = each (weightAt bytes) (axlesOf bytes) ++ replicate (MOST-AXLES - axlesOf bytes) 0;
-      distances = each (distanceAt bytes) (axlesOf bytes) ++ replicate (MOST-AXLES - axlesOf bytes) 0;
+      weights = each (λ i. kgf (weightAt bytes i)) (axlesOf bytes) ++ replicate (MOST-AXLES - axlesOf bytes) (kgf 0);
+      distances = each (λ i. centimetres (distanceAt bytes i)) (axlesOf bytes) ++ replicate (MOST-AXLES - axlesOf bytes) (centimetres 0);
     }
 
 -- a refused file gives a blank vehicle

@@ -16,6 +16,6 @@ abbrev pub each {ℓ} : {X : Type ℓ} → (ℕ → X) → ℕ → List X
 each f zero = []
 each f (suc n) = each f n ++ f n ∷ []
 
--- the first n words of a row of words that stand `step` bytes apart
-abbrev pub words : List ℕ → (at step n : ℕ) → List ℕ
-words bytes at step n = each (λ i. wordAt bytes (at + step * i)) n
+-- n words in a row
+abbrev pub words : List ℕ → (at n : ℕ) → List ℕ
+words bytes at n = each (λ i. wordAt bytes (at + 2 * i)) n

@@ -33,7 +33,7 @@ fn record_at(bytes: &[u8], i: usize) -> Member
     requires { ⌜ SURVEY-HEADER + RECORD * (i + 1) ≤ length (now bytes) ⌝ }
     ensures { λ r. ⌜ r ≡ recordAt (now (bytes .entry)) i ⌝ }
 {
-    let fields = words(bytes, HEADER + RECORD * i, 2, FIELDS);
+    let fields = words(bytes, HEADER + RECORD * i);
     Member { fields }
 }
 

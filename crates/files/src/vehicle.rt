@@ -6,16 +6,17 @@ use crate::header::header_fault;
 use crate::ranges::inside;
 use crate::words::wide;
 use crate::words::word_at;
-use crate::words::words;
 use member::record::MOST_AXLES;
 use member::record::Vehicle;
+use section::Cm;
+use section::Kgf;
 ghost use mathlib.Core.Path.{_≡_};
 ghost use Prim.Native.Nat.{_+_, _*_, _≤_};
-ghost use lib.ListN.{length, getD};
-ghost use Rattle.files.specs.Words.{each};
-ghost use Rattle.files.specs.Reading.{firstFault};
+ghost use lib.ListN.{length};
+ghost use Rattle.files.specs.Reading.{firstFault, isIn};
 ghost use Rattle.member.specs.Fields.{MOST-AXLES};
-ghost use Rattle.files.specs.VehicleFile.{VEHICLE-HEADER, AXLE, axlesOf, axleWithin, axleFaults, vehicleHeader, vehicleOf, blankVehicle, readVehicle};
+ghost use Rattle.member.specs.Format.{_‥_};
+ghost use Rattle.files.specs.VehicleFile.{VEHICLE-HEADER, AXLE, axlesOf, trackOf, weightAt, distanceAt, fieldWithin, axleFaults, vehicleHeader, vehicleOf, blankVehicle, readVehicle};
 
 // The letters, the version, class, track and count.
 const HEADER: usize = 9;
@@ -23,9 +24,14 @@ const HEADER: usize = 9;
 // Weight and distance.
 const AXLE: usize = 4;
 
-const MOST_WEIGHT: u16 = 60000;
+// An axle's fields: the weight is the first, the distance the second.
+const WEIGHT: usize = 0;
 
-const MOST_DISTANCE: u16 = 2000;
+const AXLE_FIELDS: usize = 2;
+
+const MOST_WEIGHT: u64 = 60000;
+
+const MOST_DISTANCE: u64 = 2000;
 
 // The header's fault, then 7 for class or track; or 0.
 fn vehicle_header(bytes: &[u8]) -> u64
@@ -44,20 +50,44 @@ fn vehicle_header(bytes: &[u8]) -> u64
     0
 }
 
-// Weight and distance are in their ranges; the first axle has no axle in front.
-fn axle_within(bytes: &[u8], i: usize) -> bool
+// The weight of axle i.
+fn weight_at(bytes: &[u8], i: usize) -> Kgf
     requires { ⌜ VEHICLE-HEADER + AXLE * (i + 1) ≤ length (now bytes) ⌝ }
-    ensures { λ r. ⌜ r ≡ axleWithin (now (bytes .entry)) i ⌝ }
+    ensures { λ r. ⌜ r .0 ≡ weightAt (now (bytes .entry)) i ⌝ }
 {
-    let weight = word_at(bytes, HEADER + AXLE * i);
-    let distance = word_at(bytes, HEADER + 2 + AXLE * i);
-    let carried = inside(1, MOST_WEIGHT, weight);
-    if i == 0 {
-        let first = inside(0, 0, distance);
-        return carried & first;
+    Kgf(word_at(bytes, HEADER + AXLE * i) as u64)
+}
+
+// How far axle i stands behind the axle in front.
+fn distance_at(bytes: &[u8], i: usize) -> Cm
+    requires { ⌜ VEHICLE-HEADER + AXLE * (i + 1) ≤ length (now bytes) ⌝ }
+    ensures { λ r. ⌜ r .0 ≡ distanceAt (now (bytes .entry)) i ⌝ }
+{
+    Cm(word_at(bytes, HEADER + 2 + AXLE * i) as u64)
+}
+
+// A weight or a distance lies between two numbers, both included.
+fn between(low: u64, high: u64, n: u64) -> bool
+    ensures { λ r. ⌜ r ≡ isIn (low ‥ high) n ⌝ }
+{
+    let above = low <= n;
+    let below = n <= high;
+    above & below
+}
+
+// The field f of axle i is in its range; the first axle has no axle in front.
+fn is_within(bytes: &[u8], i: usize, f: usize) -> bool
+    requires { ⌜ VEHICLE-HEADER + AXLE * (i + 1) ≤ length (now bytes) ⌝ }
+    ensures { λ r. ⌜ r ≡ fieldWithin (now (bytes .entry)) i f ⌝ }
+{
+    if f == WEIGHT {
+        return between(1, MOST_WEIGHT, weight_at(bytes, i).0);
     }
-    let apart = inside(1, MOST_DISTANCE, distance);
-    carried & apart
+    let distance = distance_at(bytes, i).0;
+    if i == 0 {
+        return between(0, 0, distance);
+    }
+    between(1, MOST_DISTANCE, distance)
 }
 
 // The first fault in the order of axles, with its place.
@@ -68,45 +98,42 @@ fn first_fault(bytes: &[u8], axles: usize) -> Reading
     let mut answer = Reading::Taken;
     let mut i: usize = 0;
     'axles: while i < axles {
-        if !axle_within(bytes, i) {
-            answer = Reading::Refused(Refusal {
-                number: 7,
-                place: (i + 1) as u64,
-            });
-            break 'axles;
+        let place = (i + 1) as u64;
+        let mut f: usize = 0;
+        while f < AXLE_FIELDS {
+            if !is_within(bytes, i, f) {
+                answer = Reading::Refused(Refusal { number: 7, place });
+                break 'axles;
+            }
+            f += 1;
         }
         i += 1;
     }
     answer
 }
 
-fn wider(word: u16) -> u32
-    ensures { λ r. ⌜ r ≡ word ⌝ }
+fn track_at(bytes: &[u8]) -> Cm
+    requires { ⌜ VEHICLE-HEADER ≤ length (now bytes) ⌝ }
+    ensures { λ r. ⌜ r .0 ≡ trackOf (now (bytes .entry)) ⌝ }
 {
-    word as u32
+    Cm(word_at(bytes, 6) as u64)
 }
 
-// The same numbers as u32.
-fn widened(row: [u16; MOST_AXLES]) -> [u32; MOST_AXLES]
-    ensures { λ r. ⌜ r ≡ each (λ i. getD row i 0) MOST-AXLES ⌝ }
-{
-    let mut out = [0u32; MOST_AXLES];
-    let mut i: usize = 0;
-    while i < MOST_AXLES {
-        out[i] = wider(row[i]);
-        i += 1;
-    }
-    out
-}
-
+// The file's numbers, and axles of 0 after them.
 fn vehicle_of(bytes: &[u8], axles: usize) -> Vehicle
     requires { ⌜ (axles ≡ axlesOf (now bytes)) × (axles ≤ MOST-AXLES) × (VEHICLE-HEADER + AXLE * axles ≤ length (now bytes)) ⌝ }
     ensures { λ r. ⌜ r ≡ vehicleOf (now (bytes .entry)) ⌝ }
 {
     let class = bytes[5];
-    let track = word_at(bytes, 6);
-    let weights = widened(words(bytes, HEADER, AXLE, axles));
-    let distances = words(bytes, HEADER + 2, AXLE, axles);
+    let track = track_at(bytes);
+    let mut weights = [Kgf(0); MOST_AXLES];
+    let mut distances = [Cm(0); MOST_AXLES];
+    let mut i: usize = 0;
+    while i < axles {
+        weights[i] = weight_at(bytes, i);
+        distances[i] = distance_at(bytes, i);
+        i += 1;
+    }
     Vehicle {
         class,
         track,
@@ -120,12 +147,15 @@ fn vehicle_of(bytes: &[u8], axles: usize) -> Vehicle
 pub fn blank_vehicle() -> Vehicle
     ensures { λ r. ⌜ r ≡ blankVehicle ⌝ }
 {
+    let track = Cm(0);
+    let weights = [Kgf(0); MOST_AXLES];
+    let distances = [Cm(0); MOST_AXLES];
     Vehicle {
         class: 0,
-        track: 0,
+        track,
         axles: 0,
-        weights: [0u32; MOST_AXLES],
-        distances: [0u16; MOST_AXLES],
+        weights,
+        distances,
     }
 }
 

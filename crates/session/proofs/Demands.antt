@@ -16,7 +16,8 @@ use Rattle.rating.specs.Compare.{SamePlaces, Heavier}
 use Rattle.member.specs.Format.{AllowedMember, AllowedVehicle, In, _‥_}
 use Rattle.rating.specs.Judgement.{ratingOf, judgementOf, written}
 use Rattle.rating.specs.Surveyed.{AllowedSurvey, AllowedMembers, memberAt}
-use Rattle.influence.specs.Influence.{weight, behind}
+use Rattle.section.specs.Units.{weight}
+use Rattle.influence.specs.Influence.{behind}
 use Rattle.influence.proofs.Greatest.{greatest-given}
 use Rattle.influence.proofs.Scaled.{mirrored, gives-sound}
 use Rattle.rating.specs.VehicleLoad.{vehicleLoadOn}
@@ -264,7 +265,7 @@ pub demand3 : Demand3
 demand3 =
     record {
       said-of = λ s survey vehicle h. held-answers h;
-      permitted-load = λ s survey vehicle h i l. permitted-load-exact (held-members h i l) (s .vehicle .class) (s .vehicle .track);
+      permitted-load = λ s survey vehicle h i l. permitted-load-exact (held-members h i l) (s .vehicle .class) (s .vehicle .track .0);
       vehicle-load = λ s survey vehicle h i l. covered (held-members h i l) (s .vehicle);
       falling = falls;
     }

@@ -6,7 +6,8 @@ use mathlib.Core.List.{List, [], _∷_}
 use mathlib.Core.Logic.{_⊎_, _↔_}
 use lib.ListN.{length}
 use Rattle.section.specs.Fraction.{Fraction, Sound, whole, _⊕_, _⊑_, _⊏_}
-use Rattle.influence.specs.Influence.{gives, weight, behind}
+use Rattle.influence.specs.Influence.{gives, behind}
+use Rattle.section.specs.Units.{weight}
 use Rattle.rating.specs.Compare.{SamePlaces, Heavier}
 use Rattle.member.specs.Format.{In, _‥_}
 use Rattle.member.specs.Formula.{Permitted}
@@ -141,7 +142,7 @@ pub record Demand3 : Type 0 where
   pub said-of : (s : Session) (survey vehicle : List ℕ) → Holds s survey vehicle → Answers s
   -- "The permitted load is 0 where its exact value is negative; else never above it and less than one unit below."
   pub permitted-load : (s : Session) (survey vehicle : List ℕ) → Holds s survey vehicle → (i : ℕ) → i < length (members s) →
-      Permitted (formulaOf (memberAt (members s) i) (s .vehicle .class) (s .vehicle .track)) (permittedAt s i)
+      Permitted (formulaOf (memberAt (members s) i) (s .vehicle .class) (s .vehicle .track .0)) (permittedAt s i)
   -- "The vehicle load is at least what every half-centimetre position in either direction gives, and less than one unit above .."
   pub vehicle-load : (s : Session) (survey vehicle : List ℕ) → Holds s survey vehicle → (i : ℕ) → i < length (members s) →
       Covers (memberAt (members s) i) (s .vehicle) (vehicleLoadAt s i)

@@ -1,5 +1,4 @@
--- `record_at` meets its contract: the sixteen words fill the row.
-use mathlib.Core.List.{append-nil}
+-- `record_at` meets its contract: the sixteen words from its place on.
 use borrow.Author.Needs.{needs}
 use Rattle.files.proofs.survey.record_at.Statement.{statement}
 use Rattle.files.proofs.survey.record_at.Tie as tie
@@ -14,7 +13,7 @@ words-requires : tie.Need-words-requires
 words-requires c κs = search needs
 
 returns : tie.Need-returns
-returns c = rw (c .words .ensures, append-nil)
+returns c = rw (c .words .ensures)
 
 pub record-at-spec : {M : Type 1} → statement M
 record-at-spec = tie.close (tie.spec mul-words add-words words-requires returns)
