@@ -3,7 +3,7 @@
 ghost use mathlib.Core.Path.{_≡_};
 ghost use Prim.Native.Nat.{_-_, _*_, _≤_, _<_, max};
 ghost use Rattle.section.specs.Fraction.{over, ceiling};
-ghost use Rattle.section.specs.Units.{weight, distance};
+ghost use Rattle.section.specs.Units.{weight};
 ghost use Rattle.influence.specs.Influence.{Triangle, perMetre, behind, vehicleLoad};
 ghost use Rattle.influence.specs.Scaled.{scaledHeight, scaledSum, apexTop};
 ghost use Rattle.influence.specs.Bounds.{Bounded};
@@ -31,21 +31,6 @@ pub fn half_of(l: Cm) -> HalfCm
     ensures { λ r. ⌜ r .0 ≡ l .0 ⌝ }
 {
     HalfCm(l.0)
-}
-
-// How far axle i stands behind the axle in front of it.
-fn distance_of(distances: [Cm; 16], i: usize) -> HalfCm
-    requires { ⌜ (i < 16) × (distance distances i ≤ 2000) ⌝ }
-    ensures { λ r. ⌜ r .0 ≡ 2 * distance distances i ⌝ }
-{
-    half_cm(distances[i])
-}
-
-fn weight_of(weights: [Kgf; 16], i: usize) -> Kgf
-    requires { ⌜ i < 16 ⌝ }
-    ensures { λ r. ⌜ r .0 ≡ weight weights i ⌝ }
-{
-    weights[i]
 }
 
 // How far `a` lies beyond `b`, 0 where it does not.
@@ -89,12 +74,12 @@ fn sum_at(
     let mut place = front;
     let mut i = 0;
     while i < axles {
-        place = beyond(place, distance_of(distances, i));
+        place = beyond(place, half_cm(distances[i]));
         // This axle and all behind it are not on the base yet.
         if place.0 == 0 {
             return ScaledSum(sum);
         }
-        sum += weight_of(weights, i).0 * scaled_height(base, apex, place);
+        sum += weights[i].0 * scaled_height(base, apex, place);
         i += 1;
     }
     ScaledSum(sum)
@@ -115,7 +100,7 @@ fn apex_top(
     let mut front = apex;
     let mut j = 0;
     while j < axles {
-        let place = front.0 + distance_of(distances, j).0;
+        let place = front.0 + half_cm(distances[j]).0;
         front = HalfCm(place);
         let sum = sum_at(base, apex, axles, weights, distances, front);
         top = greater(top, sum);

@@ -38,8 +38,8 @@ module _ {W K n q l Kₐ : Fraction} (sW : Sound W) (sK : Sound K) (pn : Positiv
   unfolding stringer
   stringer-valid =
       record {
-        front = ·-sound (·-sound (whole-sound 1536) sW) sK;
-        dead = ·-sound (·-sound (tenths-sound 12) sq) (square-positive pl .sound);
+        front = ·-sound (·-sound (whole-sound _) sW) sK;
+        dead = ·-sound (·-sound (tenths-sound _) sq) (square-positive pl .sound);
         divisor = ·-positive (·-positive pn pKₐ) (square-positive pl);
       }
 
@@ -48,8 +48,8 @@ module _ {W K n q l x : Fraction} (sW : Sound W) (sK : Sound K) (pn : Positive n
   unfolding crossBeam
   cross-beam-valid =
       record {
-        front = ·-sound (·-sound (whole-sound 1280) sW) sK;
-        dead = ·-sound (·-sound (tenths-sound 12) sq) (square-positive pl .sound);
+        front = ·-sound (·-sound (whole-sound _) sW) sK;
+        dead = ·-sound (·-sound (tenths-sound _) sq) (square-positive pl .sound);
         divisor = ·-positive (·-positive pn px) pl;
       }
 
@@ -58,8 +58,8 @@ module _ (l : Fraction) {h F K n q x Kₐ : Fraction} (sh : Sound h) (sF : Sound
   unfolding chord
   chord-valid =
       record {
-        front = ·-sound (·-sound (·-sound (whole-sound 200) sh) sF) sK;
-        dead = ·-sound (·-sound (·-sound (tenths-sound 12) sq) (pr .sound)) (px .sound);
+        front = ·-sound (·-sound (·-sound (whole-sound _) sh) sF) sK;
+        dead = ·-sound (·-sound (·-sound (tenths-sound _) sq) (pr .sound)) (px .sound);
         divisor = ·-positive (·-positive (·-positive pn pKₐ) pr) px;
       }
 
@@ -69,7 +69,7 @@ module _ (l : Fraction) {front n q μ x Kₐ : Fraction} (sf : Sound front) (pn 
   joint-valid =
       record {
         front = sf;
-        dead = ·-sound (·-sound (·-sound (·-sound (tenths-sound 12) sq) (pμ .sound)) (pr .sound)) (px .sound);
+        dead = ·-sound (·-sound (·-sound (·-sound (tenths-sound _) sq) (pμ .sound)) (pr .sound)) (px .sound);
         divisor = ·-positive (·-positive (·-positive (·-positive pμ pn) pKₐ) pr) px;
       }
 

@@ -25,19 +25,27 @@ loop-holds : tie.Need-loop-holds Inv-loop μ-loop
 unfolding top total
 loop-holds c = (refl, omega arith, omega arith)
 
-distance-of-requires : tie.Need-distance-of-requires Inv-loop μ-loop
-distance-of-requires c κs = (omega arith, c .before .before .pre .distances (c .before .loop .j) (omega arith))
+mul-half-cm : tie.Need-mul-half-cm Inv-loop μ-loop
+mul-half-cm c = omega arith
+
+array-copy-out-half-cm : tie.Need-array-copy-out-half-cm Inv-loop μ-loop
+array-copy-out-half-cm c = omega arith
+
+half-cm-requires : tie.Need-half-cm-requires Inv-loop μ-loop
+half-cm-requires c κs =
+    let at = c .before .before in
+    omega (arith, at .before .pre .distances (at .loop .j) (omega arith))
 
 add-place : tie.Need-add-place Inv-loop μ-loop
 add-place c =
-    let at = c .before .before .before .before in
+    let at = c .before .before .before .before .before in
     record {
       fits =
           omega (arith, passed-cap (at .before .pre) (at .loop .j) (omega arith), at .before .pre .distances (at .loop .j) (omega arith));
     }
 
 sum-at-requires : tie.Need-sum-at-requires Inv-loop μ-loop
-sum-at-requires c κs = bounded-ahead (c .before .before .before .before .before .pre) _ (omega arith)
+sum-at-requires c κs = bounded-ahead (c .before .before .before .before .before .before .pre) _ (omega arith)
 
 greater-requires : tie.Need-greater-requires Inv-loop μ-loop
 greater-requires c κs = search needs
@@ -50,13 +58,13 @@ loop-less c = search needs
 
 loop-again : tie.Need-loop-again Inv-loop μ-loop
 loop-again c =
-    let at = c .before .before .before .before .before .before in
+    let at = c .before .before .before .before .before .before .before in
     let args = at .before .args in (
-      top-next _ _ (weight (args .weights)) (behind (args .distances)) _ (at .loop .j)
+      top-next _ _ (weight (args .weights)) (behind (args .t5)) _ (at .loop .j)
           (c .greater .ensures) (at .loop .inv .0) (c .before .sum-at .ensures)
-          (omega (arith, behind-passed (args .distances) (at .loop .j))),
+          (omega (arith, behind-passed (args .t5) (at .loop .j))),
       omega arith,
-      omega (arith, passed-next (args .distances) (at .loop .j)),
+      omega (arith, passed-next (args .t5) (at .loop .j)),
     )
 
 returns : tie.Need-returns Inv-loop μ-loop
@@ -72,7 +80,9 @@ apex-top-spec =
     Inv-loop
     μ-loop
     loop-holds
-    distance-of-requires
+    mul-half-cm
+    array-copy-out-half-cm
+    half-cm-requires
     add-place
     sum-at-requires
     greater-requires

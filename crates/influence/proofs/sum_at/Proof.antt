@@ -25,8 +25,16 @@ loop-holds : tie.Need-loop-holds Inv-loop μ-loop
 unfolding scaledSum total
 loop-holds c = (omega arith, refl, omega arith)
 
-distance-of-requires : tie.Need-distance-of-requires Inv-loop μ-loop
-distance-of-requires c κs = (omega arith, c .before .before .pre .distances (c .before .loop .i) (omega arith))
+mul-half-cm : tie.Need-mul-half-cm Inv-loop μ-loop
+mul-half-cm c = omega arith
+
+array-copy-out-half-cm : tie.Need-array-copy-out-half-cm Inv-loop μ-loop
+array-copy-out-half-cm c = omega arith
+
+half-cm-requires : tie.Need-half-cm-requires Inv-loop μ-loop
+half-cm-requires c κs =
+    let at = c .before .before in
+    omega (arith, at .before .pre .distances (at .loop .i) (omega arith))
 
 beyond-requires : tie.Need-beyond-requires Inv-loop μ-loop
 beyond-requires c κs = search needs
@@ -34,43 +42,46 @@ beyond-requires c κs = search needs
 -- the axles from here on are not on the base yet, and add nothing
 returns : tie.Need-returns Inv-loop μ-loop
 returns c =
-    let at = c .before .before .before .before .before in
+    let at = c .before .before .before .before .before .before in
     let args = at .before .args in
     at .loop .inv .1 ∙
     sym
-    (sum-rest _ _ (weight (args .weights)) (args .distances) (at .loop .i) (args .axles) (args .front .0) (omega arith)
-    (omega (arith, behind-passed (args .distances) (at .loop .i), c .before .before .beyond .ensures, c .before .before .before .distance-of .ensures, c .if1 .taken)))
+    (sum-rest _ _ (weight (args .t4)) (args .t5) (at .loop .i) (args .axles) (args .front .0) (omega arith)
+    (omega (arith, behind-passed (args .t5) (at .loop .i), c .before .before .beyond .ensures, c .before .before .before .half-cm .ensures, c .if1 .taken)))
 
-weight-of-requires : tie.Need-weight-of-requires Inv-loop μ-loop
-weight-of-requires c κs = omega arith
+mul-sum : tie.Need-mul-sum Inv-loop μ-loop
+mul-sum c = omega arith
+
+element-copy-out-sum : tie.Need-element-copy-out-sum Inv-loop μ-loop
+element-copy-out-sum c = omega arith
 
 scaled-height-requires : tie.Need-scaled-height-requires Inv-loop μ-loop
 scaled-height-requires c κs = search needs
 
-mul-sum : tie.Need-mul-sum Inv-loop μ-loop
-mul-sum c =
-    let at = c .before .before .before .before .before .before .before .before in
+mul-sum-2 : tie.Need-mul-sum-2 Inv-loop μ-loop
+mul-sum-2 c =
+    let at = c .before .before .before .before .before .before .before in
     product-fits 200000 100000000 tt
     (omega (arith, at .before .pre .weights (at .loop .i) (omega arith)))
-    (rw (c .before .scaled-height .ensures) (height-cap _ (omega arith) (omega arith)))
+    (rw (c .scaled-height .ensures) (height-cap _ (omega arith) (omega arith)))
 
 -- the sum with one axle more, whose place is that of the front axle less all the distances to it
 sum-of :
-    (c : tie.After-struct-known2 Inv-loop μ-loop) →
-    let at = c .before .before .before .before .before .before .before .before in
+    (c : tie.After-scaled-height Inv-loop μ-loop) →
+    let at = c .before .before .before .before .before .before .before in
     let args = at .before .args in
-    at .loop .sum + c .before .before .weight-of .result .0 * c .before .scaled-height .result ≡
-    scaledSum (args .base .0) (args .apex .0) (weight (args .weights)) (behind (args .distances)) (at .loop .i + 1) (args .front .0)
+    at .loop .sum + weight (args .t4) (at .loop .i) * c .scaled-height .result ≡
+    scaledSum (args .base .0) (args .apex .0) (weight (args .t4)) (behind (args .t5)) (at .loop .i + 1) (args .front .0)
 sum-of c =
-    let at = c .before .before .before .before .before .before .before .before in
+    let at = c .before .before .before .before .before .before .before in
     let args = at .before .args in
-    sum-next _ _ (weight (args .weights)) (behind (args .distances)) (at .loop .i) _
-    (at .loop .inv .1) (c .before .before .weight-of .ensures) (c .before .scaled-height .ensures)
-    (omega (arith, behind-passed (args .distances) (at .loop .i)))
+    sum-next _ _ (weight (args .t4)) (behind (args .t5)) (at .loop .i) _
+    (at .loop .inv .1) refl (c .scaled-height .ensures)
+    (omega (arith, behind-passed (args .t5) (at .loop .i)))
 
 add-sum : tie.Need-add-sum Inv-loop μ-loop
 add-sum c =
-    let at = c .before .before .before .before .before .before .before .before in
+    let at = c .before .before .before .before .before .before .before in
     record { fits = omega (arith, sum-of c, sum-cap (at .before .pre) (at .loop .i + 1) (at .before .args .front .0) (omega arith)) }
 
 add-i : tie.Need-add-i Inv-loop μ-loop
@@ -81,8 +92,8 @@ loop-less c = search needs
 
 loop-again : tie.Need-loop-again Inv-loop μ-loop
 loop-again c =
-    let at = c .before .before .before .before .before .before .before .before in
-    (omega arith, sum-of c, omega (arith, passed-next (at .before .args .distances) (at .loop .i)))
+    let at = c .before .before .before .before .before .before .before in
+    (omega arith, sum-of c, omega (arith, passed-next (at .before .args .t5) (at .loop .i)))
 
 returns-2 : tie.Need-returns-2 Inv-loop μ-loop
 returns-2 c =
@@ -96,12 +107,15 @@ sum-at-spec =
     Inv-loop
     μ-loop
     loop-holds
-    distance-of-requires
+    mul-half-cm
+    array-copy-out-half-cm
+    half-cm-requires
     beyond-requires
     returns
-    weight-of-requires
-    scaled-height-requires
     mul-sum
+    element-copy-out-sum
+    scaled-height-requires
+    mul-sum-2
     add-sum
     add-i
     loop-less
