@@ -247,8 +247,8 @@ files-answered s survey vehicle h =
       judged = λ list l. rw (← ms, ← v) (a .judged list (rw n l));
       listed = λ list l. rw (← ms, ← v) (a .listed list (rw n l));
       permitted-load = λ i l.
-          subst (λ (w : Vehicle). Permitted (formulaOf (recordAt survey i) (w .class) (w .track)) (permittedFor w (recordAt survey i))) v
-          (rw (← at i l) (permitted-load-exact (held-members h i (within i l)) (s .vehicle .class) (s .vehicle .track)));
+          subst (λ (w : Vehicle). Permitted (formulaOf (recordAt survey i) (w .class) (w .track .0)) (permittedFor w (recordAt survey i))) v
+          (rw (← at i l) (permitted-load-exact (held-members h i (within i l)) (s .vehicle .class) (s .vehicle .track .0)));
       vehicle-load = λ i l. rw (← at i l, ← v) (covered (held-members h i (within i l)) (s .vehicle));
     }
 

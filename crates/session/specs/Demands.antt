@@ -6,8 +6,8 @@ use mathlib.Core.List.{List, [], _∷_}
 use mathlib.Core.Logic.{_⊎_, _↔_}
 use lib.ListN.{length}
 use Rattle.section.specs.Fraction.{Fraction, Sound, whole, _⊕_, _⊑_, _⊏_}
-use Rattle.influence.specs.Influence.{gives, behind}
 use Rattle.section.specs.Units.{weight}
+use Rattle.influence.specs.Influence.{gives, behind}
 use Rattle.rating.specs.Compare.{SamePlaces, Heavier}
 use Rattle.member.specs.Format.{In, _‥_}
 use Rattle.member.specs.Formula.{Permitted}
@@ -136,7 +136,7 @@ pub record FilesAnswered (s : Session) (survey vehicle : List ℕ) : Type 0 wher
   pub listed : (list : List ℕ) → 2 * countOf survey ≤ length list →
       judgeList s list ≡ written (vehicleOf vehicle) (recordsOf survey) list
   pub permitted-load : (i : ℕ) → i < countOf survey →
-      Permitted (formulaOf (recordAt survey i) (vehicleOf vehicle .class) (vehicleOf vehicle .track)) (permittedFor (vehicleOf vehicle) (recordAt survey i))
+      Permitted (formulaOf (recordAt survey i) (vehicleOf vehicle .class) (vehicleOf vehicle .track .0)) (permittedFor (vehicleOf vehicle) (recordAt survey i))
   pub vehicle-load : (i : ℕ) → i < countOf survey →
       Covers (recordAt survey i) (vehicleOf vehicle) (vehicleLoadOn (recordAt survey i) (vehicleOf vehicle))
 
