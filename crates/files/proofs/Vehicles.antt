@@ -181,8 +181,8 @@ module _ (bytes : List ℕ) where
   pub taken-distance : readVehicle bytes .answer ≡ Taken → (i : ℕ) → i < axlesOf bytes → distance (readVehicle bytes .vehicle .distances) i ≡ distanceAt bytes i
   taken-distance e i l = rw (taken-vehicle e) (distance-is i l)
 
-  pub taken-sound : readVehicle bytes .answer ≡ Taken → AllowedVehicle (readVehicle bytes .vehicle)
-  taken-sound e = rw (taken-vehicle e) (taken-allowed e .vehicle)
+  pub taken-vehicle-allowed : readVehicle bytes .answer ≡ Taken → AllowedVehicle (readVehicle bytes .vehicle)
+  taken-vehicle-allowed e = rw (taken-vehicle e) (taken-allowed e .vehicle)
 
   -- a refused file gives a blank vehicle
   pub refused-blank : (r : Refusal) → readVehicle bytes .answer ≡ Refused r → readVehicle bytes .vehicle ≡ blankVehicle

@@ -49,9 +49,9 @@ use Rattle.session.specs.Calls.{newSession, members, stateFault, rateFau
 use Rattle.session.specs.Demands.{FromState, Demand1, Demand2, Demand3, Answers, FilesAnswered, Governs, Covers, Falls, recordsOf}
 use Rattle.session.specs.History.{Holds, after}
 use Rattle.session.specs.declared.Session.{Session}
-use Rattle.session.proofs.History.{last-held, in-turn, in-reverse}
+use Rattle.session.proofs.History.{last-held, in-turn, in-reverse, calls-valid}
 use Rattle.session.proofs.Loads.{never-both, reading-case, survey-read, vehicle-read, survey-load, vehicle-load, survey-refused, vehicle-refused}
-use Rattle.session.proofs.State.{taken-survey-allowed}
+use Rattle.session.proofs.State.{taken-survey-allowed, valid-new}
 
 -- a fault is an answer from the state, or there is none
 fault-answer : (numbers : ℕ → Type 0) (n : ℕ) (values : List ℕ) → (n ≡ 0) ⊎ numbers n → FromState numbers (unlessFault n values)
@@ -113,6 +113,7 @@ demand1 =
       vehicle-named = λ s bytes r h. vehicle-refused s bytes r (vehicles.named-refused bytes r h);
       rate-answered = λ s place. fault-answer (In (11 ‥ 13)) _ _ (rate-number (s .survey .count) (s .vehicle .axles) place);
       judge-answered = λ s list. fault-answer (λ n. (In (11 ‥ 12) n) ⊎ (n ≡ 14)) _ _ (judge-number (s .survey .count) (s .vehicle .axles) (length list));
+      valid = λ calls. calls-valid newSession calls valid-new;
       survey-kept = λ s bytes n p.
           reading-case (readSurvey bytes .answer) (λ a. storedSurvey s a (readSurvey bytes .survey) .answer ≡ RefusedAt n p → storedSurvey s a (readSurvey bytes .survey) .session ≡ s)
           (λ e h. never-both [] n p h)
@@ -190,7 +191,7 @@ module _ {s : Session} {survey vehicle : List ℕ} (h : Holds s survey vehicle) 
   held-vehicle : AllowedVehicle (s .vehicle)
   held-vehicle =
       let e = vehicle-read newSession vehicle (h .vehicle-taken) in
-      rw (h .vehicle-held, vehicle-load newSession vehicle e, ← (vehicles.taken-vehicle vehicle e)) (vehicles.taken-sound vehicle e)
+      rw (h .vehicle-held, vehicle-load newSession vehicle e, ← (vehicles.taken-vehicle vehicle e)) (vehicles.taken-vehicle-allowed vehicle e)
 
   held-members : AllowedMembers (members s)
   held-members = members-allowed held-survey

@@ -1,19 +1,20 @@
 -- After any row of calls the session holds the files that were taken last: a load that takes its file stores it, and no other call
--- touches it.
+-- touches it. From a new session it is valid.
 -- Assumes nothing.
 use Prim.Native.Nat.{ℕ}
 use mathlib.Core.Path.{_≡_, refl, sym, ap, _∙_}
 use mathlib.Core.List.{List, [], _∷_}
-use Rattle.files.specs.SurveyFile.{surveyOf}
-use Rattle.files.specs.VehicleFile.{vehicleOf}
+use Rattle.files.specs.SurveyFile.{readSurvey}
+use Rattle.files.specs.VehicleFile.{readVehicle}
 use Rattle.files.specs.Allowed.{AllowedSurveyFile, AllowedVehicleFile}
 use Rattle.files.proofs.Surveys as surveys
 use Rattle.files.proofs.Vehicles as vehicles
 use Rattle.session.specs.Answers.{Outcome, Values}
-use Rattle.session.specs.Calls.{newSession, loadSurvey, loadVehicle, rate, judge}
+use Rattle.session.specs.Calls.{Valid, newSession, loadSurvey, loadVehicle, storedSurvey, storedVehicle, rate, judge}
 use Rattle.session.specs.History.{Call, LoadSurvey, LoadVehicle, Rate, Judge, next, after, TakesSurvey, TakesVehicle, NoneTakes, LastTakes, here, further, TakenLast, Holds}
 use Rattle.session.specs.declared.Session.{Session}
-use Rattle.session.proofs.Loads.{survey-read, vehicle-read, survey-load, vehicle-load, survey-left, vehicle-left, other-survey, other-vehicle}
+use Rattle.session.proofs.Loads.{reading-case, survey-read, vehicle-read, survey-load, vehicle-load, survey-left, vehicle-left, other-survey, other-vehicle}
+use Rattle.session.proofs.State.{valid-survey, valid-vehicle}
 
 -- a call that takes no survey leaves the survey, and so with the vehicle
 survey-next : (s : Session) (c : Call) → ¬ (TakesSurvey s c) → next s c .survey ≡ s .survey
@@ -88,3 +89,17 @@ module _ {survey vehicle : List ℕ} (a : AllowedSurveyFile survey) (b : Allowed
   in-reverse =
       last-held newSession (LoadVehicle vehicle ∷ LoadSurvey survey ∷ []) survey vehicle
       (record { last-survey = further (here (survey-takes _) tt); last-vehicle = here (vehicle-takes newSession) ((λ n. n), tt) })
+
+-- every call hands back a valid session
+next-valid : (s : Session) (c : Call) → Valid s → Valid (next s c)
+unfolding loadSurvey loadVehicle rate judge
+next-valid s (LoadSurvey bytes) h =
+    reading-case (readSurvey bytes .answer) (λ a. Valid (storedSurvey s a (readSurvey bytes .survey) .session)) (λ e. valid-survey s bytes h e) (λ r e. h)
+next-valid s (LoadVehicle bytes) h =
+    reading-case (readVehicle bytes .answer) (λ a. Valid (storedVehicle s a (readVehicle bytes .vehicle) .session)) (λ e. valid-vehicle s bytes h e) (λ r e. h)
+next-valid s (Rate place) h = h
+next-valid s (Judge list) h = h
+
+pub calls-valid : (s : Session) (calls : List Call) → Valid s → Valid (after s calls)
+calls-valid s [] h = h
+calls-valid s (c ∷ calls) h = calls-valid (next s c) calls (next-valid s c h)

@@ -27,7 +27,7 @@ use Rattle.files.specs.VehicleFile.{vehicleOf}
 use Rattle.files.specs.Words.{each}
 use Rattle.files.specs.declared.Refusal.{Refusal}
 use Rattle.session.specs.Answers.{Answer, Values, RefusedAt, refusedBy, ratingValues, judgementValues}
-use Rattle.session.specs.Calls.{newSession, members, loadSurvey, loadVehicle, rate, judge, judgeList, judgeFiles}
+use Rattle.session.specs.Calls.{Valid, newSession, members, loadSurvey, loadVehicle, rate, judge, judgeList, judgeFiles}
 use Rattle.session.specs.History.{Call, LoadSurvey, LoadVehicle, after, TakenLast, Holds}
 use Rattle.session.specs.declared.Session.{Session}
 
@@ -63,6 +63,8 @@ pub record Demand1 : Type 0 where
   pub vehicle-named : (s : Session) (bytes : List ℕ) (r : Refusal) → VehicleRefusal bytes r → loadVehicle s bytes .answer ≡ refusedBy r
   pub rate-answered : (s : Session) (place : ℕ) → FromState (In (11 ‥ 13)) (rate s place .answer)
   pub judge-answered : (s : Session) (list : List ℕ) → FromState (λ n. (In (11 ‥ 12) n) ⊎ (n ≡ 14)) (judge s list .answer)
+  -- all that the calls' contracts ask of a session: it holds after any calls from a new one
+  pub valid : (calls : List Call) → Valid (after newSession calls)
   -- "A refused file or call leaves survey, vehicle and answer list untouched."
   pub survey-kept : (s : Session) (bytes : List ℕ) (n p : ℕ) →
       loadSurvey s bytes .answer ≡ RefusedAt n p → loadSurvey s bytes .session ≡ s
