@@ -3,7 +3,7 @@ ghost use mathlib.Core.Path.{_≡_};
 ghost use Prim.Native.Nat.{_≤_, _<_};
 ghost use lib.ListN.{length};
 ghost use Rattle.session.specs.Answers.{loaded};
-ghost use Rattle.session.specs.Calls.{Sound};
+ghost use Rattle.session.specs.Calls.{Valid};
 ghost use Rattle.bridge.specs.Input.{ENOUGH, LoadedFrom, surveyLength, loadInput};
 use files::Reading;
 use session::AfterLoad;
@@ -44,7 +44,7 @@ fn survey_length(input: &[u8]) -> usize
 pub fn load_read(buffer: &[u8], n: usize) -> AfterLoad
     requires { ⌜ (ENOUGH ≤ length (now buffer)) × (n ≤ length (now buffer)) ⌝ }
     ensures is { λ r. ⌜ LoadedFrom (now (buffer .entry)) n (loaded r) ⌝ }
-    ensures sound { λ r. ⌜ Sound (r .session) ⌝ }
+    ensures valid { λ r. ⌜ Valid (r .session) ⌝ }
 {
     load_input(&buffer[..n])
 }
@@ -52,7 +52,7 @@ pub fn load_read(buffer: &[u8], n: usize) -> AfterLoad
 // Loads the survey, and where it is taken the vehicle.
 fn load_input(input: &[u8]) -> AfterLoad
     ensures is { λ r. ⌜ loaded r ≡ loadInput (now (input .entry)) ⌝ }
-    ensures sound { λ r. ⌜ Sound (r .session) ⌝ }
+    ensures valid { λ r. ⌜ Valid (r .session) ⌝ }
 {
     let n = survey_length(input);
     let after = Session::new().load_survey(&input[..n]);

@@ -1,5 +1,5 @@
 // The lines that the program prints, one space between fields.
-ghost use Rattle.session.specs.Calls.{Sound};
+ghost use Rattle.session.specs.Calls.{Valid};
 use files::Reading;
 use files::Refusal;
 use libc::STDOUT_FILENO;
@@ -57,7 +57,7 @@ fn print_judgement(j: Judgement) {
 
 // The line of the member at a place, where there is such a place.
 fn print_member(session: Session, place: u64) -> bool
-    requires { ⌜ Sound session ⌝ }
+    requires { ⌜ Valid session ⌝ }
 {
     let rated = session.rate(place);
     let answer = rated.answer;
@@ -72,7 +72,7 @@ fn print_member(session: Session, place: u64) -> bool
 
 // The members' lines, from place 1 to the first place that there is not.
 fn print_members(session: Session)
-    requires { ⌜ Sound session ⌝ }
+    requires { ⌜ Valid session ⌝ }
 {
     let mut place: u64 = 1;
     while place <= MOST_MEMBERS as u64 && print_member(session, place) {
@@ -82,7 +82,7 @@ fn print_members(session: Session)
 
 // The bridge's line. A refusal is not to be had here: both files are loaded and the list is long enough.
 fn print_bridge(session: Session)
-    requires { ⌜ Sound session ⌝ }
+    requires { ⌜ Valid session ⌝ }
 {
     let mut list = [0u64; 2 * MOST_MEMBERS];
     let judged = session.judge(&mut list);
@@ -95,7 +95,7 @@ fn print_bridge(session: Session)
 
 // What is printed of the input that was loaded.
 pub fn print_report(after: AfterLoad)
-    requires { ⌜ Sound (after .session) ⌝ }
+    requires { ⌜ Valid (after .session) ⌝ }
 {
     let answer = after.answer;
     match answer {

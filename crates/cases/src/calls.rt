@@ -3,7 +3,7 @@ use crate::print;
 use session::Session;
 ghost use mathlib.Core.Path.{_≡_};
 ghost use lib.ListN.{length};
-ghost use Rattle.session.specs.Calls.{Sound};
+ghost use Rattle.session.specs.Calls.{Valid};
 
 // The longest list that a script can ask for.
 const MOST_ENTRIES: usize = 160;
@@ -12,15 +12,15 @@ const MOST_ENTRIES: usize = 160;
 const KNOWN: u64 = 1000000;
 
 pub fn start() -> Session
-    ensures { λ r. ⌜ Sound r ⌝ }
+    ensures { λ r. ⌜ Valid r ⌝ }
 {
     print::line(b"new");
     Session::new()
 }
 
 pub fn load_survey(session: Session, bytes: &[u8]) -> Session
-    requires { ⌜ Sound session ⌝ }
-    ensures { λ r. ⌜ Sound r ⌝ }
+    requires { ⌜ Valid session ⌝ }
+    ensures { λ r. ⌜ Valid r ⌝ }
 {
     let after = session.load_survey(bytes);
     print::text(b"survey");
@@ -30,8 +30,8 @@ pub fn load_survey(session: Session, bytes: &[u8]) -> Session
 }
 
 pub fn load_vehicle(session: Session, bytes: &[u8]) -> Session
-    requires { ⌜ Sound session ⌝ }
-    ensures { λ r. ⌜ Sound r ⌝ }
+    requires { ⌜ Valid session ⌝ }
+    ensures { λ r. ⌜ Valid r ⌝ }
 {
     let after = session.load_vehicle(bytes);
     print::text(b"vehicle");
@@ -41,8 +41,8 @@ pub fn load_vehicle(session: Session, bytes: &[u8]) -> Session
 }
 
 pub fn rate(session: Session, place: u64) -> Session
-    requires { ⌜ Sound session ⌝ }
-    ensures { λ r. ⌜ Sound r ⌝ }
+    requires { ⌜ Valid session ⌝ }
+    ensures { λ r. ⌜ Valid r ⌝ }
 {
     let after = session.rate(place);
     print::text(b"rate");
@@ -66,8 +66,8 @@ fn known_list() -> [u64; MOST_ENTRIES]
 
 // Judges with the list, and prints the whole list as it is then.
 fn judge_with(session: Session, list: &mut [u64]) -> Session
-    requires { ⌜ Sound session ⌝ }
-    ensures { λ r. ⌜ Sound r ⌝ }
+    requires { ⌜ Valid session ⌝ }
+    ensures { λ r. ⌜ Valid r ⌝ }
 {
     let after = session.judge(list);
     print::text(b"judge");
@@ -78,8 +78,8 @@ fn judge_with(session: Session, list: &mut [u64]) -> Session
 }
 
 pub fn judge(session: Session, entries: usize) -> Session
-    requires { ⌜ Sound session ⌝ }
-    ensures { λ r. ⌜ Sound r ⌝ }
+    requires { ⌜ Valid session ⌝ }
+    ensures { λ r. ⌜ Valid r ⌝ }
 {
     let mut list = known_list();
     if entries <= MOST_ENTRIES {

@@ -7,7 +7,7 @@ use crate::print;
 use session::Session;
 ghost use Prim.Native.Nat.{_+_, _≤_, _<_};
 ghost use lib.ListN.{length};
-ghost use Rattle.session.specs.Calls.{Sound};
+ghost use Rattle.session.specs.Calls.{Valid};
 
 const HEAD: usize = 3;
 
@@ -53,8 +53,8 @@ fn end_of(step: Step, from: usize, script: &[u8]) -> usize
 }
 
 fn run_step(session: Session, step: Step, bytes: &[u8]) -> Session
-    requires { ⌜ Sound session ⌝ }
-    ensures { λ r. ⌜ Sound r ⌝ }
+    requires { ⌜ Valid session ⌝ }
+    ensures { λ r. ⌜ Valid r ⌝ }
 {
     let letter = step.letter;
     let number = step.number;

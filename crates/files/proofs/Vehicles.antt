@@ -6,25 +6,24 @@ use mathlib.Core.List.{List, [], _∷_}
 use mathlib.Core.Logic.{_⊎_, inl, inr, ⊎-elim, _↔_}
 use mathlib.Core.Bool.{Bool, true, false, _&&_, and-false}
 use native.Mathlib.Omega.{arith}
-use lib.ListN.{length, replicate}
+use lib.ListN.{length, getD, replicate}
 use borrow.Author.Tests.{ne-eqb}
 use Rattle.section.specs.Units.{centimetres, kgf, weight, distance}
 use Rattle.section.specs.declared.Cm.{Cm}
 use Rattle.section.specs.declared.Kgf.{Kgf}
 use Rattle.member.specs.declared.record.Vehicle.{Vehicle}
 use Rattle.member.specs.Format.{_‥_, In, classRange, trackRange, weightRange, laterRange, AllowedVehicle}
-use Rattle.files.specs.Words.{wordAt}
 use Rattle.files.specs.Reading.{_unless_, firstOf, firstFault, isIn}
 use Rattle.files.specs.Header.{headerFault}
 use Rattle.member.specs.Fields.{MOST-AXLES}
-use Rattle.files.specs.VehicleFile.{VEHICLE-HEADER, AXLE, axlesOf, classOf, trackOf, weightAt, distanceAt, axleRange, vehicleHeader, axleWithin, axleFault, axleFaults, vehicleAnswer, blankVehicle, vehicleOf, vehicleBy, readVehicle}
+use Rattle.files.specs.VehicleFile.{VEHICLE-HEADER, AXLE, AXLE-FIELDS, WEIGHT, DISTANCE, axlesOf, classOf, trackOf, axleField, weightAt, distanceAt, axleRange, vehicleHeader, fieldWithin, axleWithin, axleFault, axleFaults, vehicleAnswer, blankVehicle, vehicleOf, vehicleBy, readVehicle}
 use Rattle.files.specs.Allowed.{AllowedVehicleFile}
 use Rattle.files.specs.Refused.{Headed, Fronted, FrontFault, wrong-header, wrong-class-or-track, VehicleRefusal}
 use Rattle.files.specs.declared.Refusal.{Refusal}
 use Rattle.files.specs.declared.Reading.{Reading}
 use Rattle.files.specs.declared.Reading.the-variants.{Taken, Refused}
 use Rattle.files.specs.declared.VehicleRead.{VehicleRead}
-use Rattle.files.proofs.Tests.{both, in-range, range-in, refuted, refutes, passed}
+use Rattle.files.proofs.Tests.{in-range, range-in, refuted, refutes, all-at, all-of, all-failing, all-fails, passed}
 use Rattle.files.proofs.Each.{length-each, getD-each, getD-padded}
 use Rattle.files.proofs.Faults.{refusal, head-first, head-clear, fault-at, taken-none, none-taken, FaultAt, refused-at}
 use Rattle.files.proofs.Headers.{headed, header-clear, header-named, header-is, header-number}
@@ -78,65 +77,77 @@ pub read-as : (bytes : List ℕ) (answer : Reading) (vehicle : Vehicle) → answ
 unfolding readVehicle
 read-as bytes answer vehicle a v = rw (v, a)
 
--- an axle without a fault
-pub axle-ranges : (bytes : List ℕ) (i : ℕ) → axleFault bytes i ≡ 0 → (In weightRange (weightAt bytes i)) × (In (axleRange i) (distanceAt bytes i))
-unfolding axleWithin
-axle-ranges bytes i e =
-    let weight = isIn weightRange (weightAt bytes i) in
-    let distance = isIn (axleRange i) (distanceAt bytes i) in
-    let good = both weight distance (passed 7 (weight && distance) (omega arith) e) in
-    (in-range weightRange (weightAt bytes i) (good .0), in-range (axleRange i) (distanceAt bytes i) (good .1))
+-- an axle has no fault exactly where each of its fields is in its range
+pub axle-ranges : (bytes : List ℕ) (i : ℕ) → axleFault bytes i ≡ 0 → (f : ℕ) → f < AXLE-FIELDS → In (axleRange i f) (axleField bytes i f)
+unfolding axleWithin fieldWithin
+axle-ranges bytes i e f h = in-range _ _ (all-at (fieldWithin bytes i) AXLE-FIELDS (passed 7 (axleWithin bytes i) (omega arith) e) f h)
 
--- an axle with one
-pub axle-named : (bytes : List ℕ) (i n : ℕ) → axleFault bytes i ≡ n → ¬ (n ≡ 0) → (n ≡ 7) × ((¬ (In weightRange (weightAt bytes i))) ⊎ (¬ (In (axleRange i) (distanceAt bytes i))))
-unfolding axleWithin
-axle-named bytes i n e some =
-    go (isIn weightRange (weightAt bytes i)) (isIn (axleRange i) (distanceAt bytes i)) e (in-range _ _, range-in _ _) (in-range _ _, range-in _ _)
+pub axle-clear : (bytes : List ℕ) (i : ℕ) → ((f : ℕ) → f < AXLE-FIELDS → In (axleRange i f) (axleField bytes i f)) → axleFault bytes i ≡ 0
+unfolding axleWithin fieldWithin
+axle-clear bytes i h = rw (all-of (fieldWithin bytes i) AXLE-FIELDS (λ f l. range-in _ _ (h f l)))
+
+-- else its fault is 7, and one field is not
+pub axle-named : (bytes : List ℕ) (i n : ℕ) → axleFault bytes i ≡ n → ¬ (n ≡ 0) → (n ≡ 7) × ((f : ℕ) × (f < AXLE-FIELDS) × (¬ (In (axleRange i f) (axleField bytes i f))))
+unfolding axleWithin fieldWithin
+axle-named bytes i n e some = go (axleWithin bytes i) refl e
   where
-    go : (a b : Bool) → 7 unless (a && b) ≡ n → (a ≡ true) ↔ In weightRange (weightAt bytes i) → (b ≡ true) ↔ In (axleRange i) (distanceAt bytes i) → (n ≡ 7) × ((¬ (In weightRange (weightAt bytes i))) ⊎ (¬ (In (axleRange i) (distanceAt bytes i))))
-    go false b e weight distance = (sym e, inl (refuted weight))
-    go true false e weight distance = (sym e, inr (refuted distance))
-    go true true e weight distance = absurd (some (sym e))
+    go : (b : Bool) → axleWithin bytes i ≡ b → 7 unless b ≡ n → (n ≡ 7) × ((f : ℕ) × (f < AXLE-FIELDS) × (¬ (In (axleRange i f) (axleField bytes i f))))
+    go true t e = absurd (some (sym e))
+    go false t e =
+        let (f, h, out) = all-failing (fieldWithin bytes i) AXLE-FIELDS t in
+        (sym e, (f, h, λ inside. mathlib.Core.Bool.false≢true (sym out ∙ range-in _ _ inside)))
 
-pub axle-is : (bytes : List ℕ) (i : ℕ) → (¬ (In weightRange (weightAt bytes i))) ⊎ (¬ (In (axleRange i) (distanceAt bytes i))) → axleFault bytes i ≡ 7
-unfolding axleWithin
-axle-is bytes i (inl w) = rw (refutes (isIn weightRange (weightAt bytes i)) (in-range _ _) w)
-axle-is bytes i (inr d) = rw (refutes (isIn (axleRange i) (distanceAt bytes i)) (in-range _ _) d, and-false)
-
-pub axle-clear : (bytes : List ℕ) (i : ℕ) → In weightRange (weightAt bytes i) → In (axleRange i) (distanceAt bytes i) → axleFault bytes i ≡ 0
-unfolding axleWithin
-axle-clear bytes i w d = rw (range-in weightRange (weightAt bytes i) w, range-in (axleRange i) (distanceAt bytes i) d)
+pub axle-is : (bytes : List ℕ) (i f : ℕ) → f < AXLE-FIELDS → ¬ (In (axleRange i f) (axleField bytes i f)) → axleFault bytes i ≡ 7
+unfolding axleWithin fieldWithin
+axle-is bytes i f h out =
+    rw (all-fails (fieldWithin bytes i) AXLE-FIELDS f h (refutes (fieldWithin bytes i f) (in-range _ _) out))
 
 module _ (bytes : List ℕ) where
   -- the vehicle's axles are the file's
   weight-is : (i : ℕ) → i < axlesOf bytes → weight (vehicleOf bytes .weights) i ≡ weightAt bytes i
-  weight-is i l = ap (λ (w : Kgf). w .0) (getD-padded (λ k. kgf (weightAt bytes k)) (axlesOf bytes) i (replicate (MOST-AXLES - axlesOf bytes) (kgf 0)) (kgf 0) l)
+  weight-is i l =
+      ap (λ (w : Kgf). w .0) (getD-padded (λ k. kgf (weightAt bytes k)) (axlesOf bytes) i (replicate (MOST-AXLES - axlesOf bytes) (kgf 0)) (kgf 0) l)
 
   distance-is : (i : ℕ) → i < axlesOf bytes → distance (vehicleOf bytes .distances) i ≡ distanceAt bytes i
-  distance-is i l = ap (λ (d : Cm). d .0) (getD-padded (λ k. centimetres (distanceAt bytes k)) (axlesOf bytes) i (replicate (MOST-AXLES - axlesOf bytes) (centimetres 0)) (centimetres 0) l)
+  distance-is i l =
+      ap (λ (d : Cm). d .0) (getD-padded (λ k. centimetres (distanceAt bytes k)) (axlesOf bytes) i (replicate (MOST-AXLES - axlesOf bytes) (centimetres 0)) (centimetres 0) l)
 
-  later-range : (i : ℕ) → 0 < i → axleRange i ≡ laterRange
+  -- the ranges of an axle's two fields
+  weight-range : (i : ℕ) → axleRange i WEIGHT ≡ weightRange
+  unfolding axleRange
+  weight-range i = refl
+
+  first-range : axleRange 0 DISTANCE ≡ 0 ‥ 0
+  unfolding axleRange
+  first-range = refl
+
+  later-range : (i : ℕ) → 0 < i → axleRange i DISTANCE ≡ laterRange
+  unfolding axleRange
   later-range i h = rw (ne-eqb i 0 (omega arith))
 
   -- a vehicle is allowed exactly when header and axles have no fault
   clear-vehicle : Fronted bytes → ((i : ℕ) → i < axlesOf bytes → axleFault bytes i ≡ 0) → AllowedVehicle (vehicleOf bytes)
   clear-vehicle h clear =
+      let inside : (i : ℕ) → i < axlesOf bytes → (f : ℕ) → f < AXLE-FIELDS → In (axleRange i f) (axleField bytes i f) = λ i l. axle-ranges bytes i (clear i l) in
       let count = h .head .count in
       record {
         class = h .class;
         track = h .track;
         axles = count;
-        weights = λ i l. rw (weight-is i l) (axle-ranges bytes i (clear i l) .0);
-        first = rw (distance-is 0 (omega arith)) (omega (arith, axle-ranges bytes 0 (clear 0 (omega arith)) .1));
-        distances = λ i z l. rw (distance-is i l) (rw (later-range i z) at (axle-ranges bytes i (clear i l) .1));
+        weights = λ i l. rw (weight-is i l) (rw (weight-range i) at (inside i l WEIGHT (omega arith)));
+        first = rw (distance-is 0 (omega arith)) (omega (arith, rw first-range at (inside 0 (omega arith) DISTANCE (omega arith))));
+        distances = λ i z l. rw (distance-is i l) (rw (later-range i z) at (inside i l DISTANCE (omega arith)));
       }
 
   vehicle-clear : AllowedVehicle (vehicleOf bytes) → (i : ℕ) → i < axlesOf bytes → axleFault bytes i ≡ 0
-  vehicle-clear a zero l =
-      let first = rw (distance-is 0 l) at (a .first) in
-      axle-clear bytes 0 (rw (weight-is 0 l) at (a .weights 0 l)) (omega arith)
-  vehicle-clear a (suc i) l =
-      axle-clear bytes (suc i) (rw (weight-is (suc i) l) at (a .weights (suc i) l)) (rw (later-range (suc i) (omega arith)) (rw (distance-is (suc i) l) at (a .distances (suc i) (omega arith) l)))
+  vehicle-clear a i l = axle-clear bytes i (inside i l)
+    where
+      inside : (i : ℕ) → i < axlesOf bytes → (f : ℕ) → f < AXLE-FIELDS → In (axleRange i f) (axleField bytes i f)
+      inside i l zero h = rw (weight-range i) (rw (weight-is i l) at (a .weights i l))
+      inside zero l (suc zero) h = let first = rw (distance-is 0 l) at (a .first) in rw first-range (omega arith)
+      inside (suc i) l (suc zero) h =
+          rw (later-range (suc i) (omega arith)) (rw (distance-is (suc i) l) at (a .distances (suc i) (omega arith) l))
+      inside i l (suc (suc f)) h = absurd (omega arith)
 
   -- a file is taken exactly when it is allowed
   pub taken-allowed : readVehicle bytes .answer ≡ Taken → AllowedVehicleFile bytes
@@ -164,14 +175,14 @@ module _ (bytes : List ℕ) where
   unfolding readVehicle
   taken-vehicle e = rw e
 
-  pub taken-weight : readVehicle bytes .answer ≡ Taken → (i : ℕ) → i < axlesOf bytes → weight (readVehicle bytes .vehicle .weights) i ≡ wordAt bytes (VEHICLE-HEADER + AXLE * i)
+  pub taken-weight : readVehicle bytes .answer ≡ Taken → (i : ℕ) → i < axlesOf bytes → weight (readVehicle bytes .vehicle .weights) i ≡ weightAt bytes i
   taken-weight e i l = rw (taken-vehicle e) (weight-is i l)
 
-  pub taken-distance : readVehicle bytes .answer ≡ Taken → (i : ℕ) → i < axlesOf bytes → distance (readVehicle bytes .vehicle .distances) i ≡ wordAt bytes (VEHICLE-HEADER + 2 + AXLE * i)
+  pub taken-distance : readVehicle bytes .answer ≡ Taken → (i : ℕ) → i < axlesOf bytes → distance (readVehicle bytes .vehicle .distances) i ≡ distanceAt bytes i
   taken-distance e i l = rw (taken-vehicle e) (distance-is i l)
 
-  pub taken-sound : readVehicle bytes .answer ≡ Taken → AllowedVehicle (readVehicle bytes .vehicle)
-  taken-sound e = rw (taken-vehicle e) (taken-allowed e .vehicle)
+  pub taken-vehicle-allowed : readVehicle bytes .answer ≡ Taken → AllowedVehicle (readVehicle bytes .vehicle)
+  taken-vehicle-allowed e = rw (taken-vehicle e) (taken-allowed e .vehicle)
 
   -- a refused file gives a blank vehicle
   pub refused-blank : (r : Refusal) → readVehicle bytes .answer ≡ Refused r → readVehicle bytes .vehicle ≡ blankVehicle
@@ -212,7 +223,7 @@ module _ (bytes : List ℕ) where
                 fronted = fronted bytes (h .first 0 (omega arith));
                 within = within;
                 fault = named .1;
-                before = λ k b. axle-ranges bytes k (sym (getD-each (axleFault bytes) (axlesOf bytes) k 0 (omega arith)) ∙ h .first (suc k) (omega arith));
+                before = λ k f b. axle-ranges bytes k (sym (getD-each (axleFault bytes) (axlesOf bytes) k 0 (omega arith)) ∙ h .first (suc k) (omega arith)) f;
               },
             );
       }
@@ -233,7 +244,8 @@ module _ (bytes : List ℕ) where
           let here : r .place - 1 ≡ i = omega arith in
           let axle = rw here at (h .axle-fault (omega arith)) in
           let first = axle .1 in
-          let before = none-taken 1 (axleFault bytes) i (λ k l. axle-clear bytes k (first .before k l .0) (first .before k l .1)) in
+          let before = none-taken 1 (axleFault bytes) i (λ k l. axle-clear bytes k (λ f h. first .before k f l h)) in
+          let (f, within, out) = first .fault in
           let there : i + 1 ≡ r .place = omega arith in
           let seven : r .number ≡ 7 = axle .0 in
-          head-clear 0 _ (axleFaults bytes (axlesOf bytes)) (front-clear bytes (first .fronted)) ∙ fault-at (axleFault bytes) 1 i (axlesOf bytes) 7 (first .within) before (axle-is bytes i (first .fault)) (omega arith) ∙ rw (there, ← seven)
+          head-clear 0 _ (axleFaults bytes (axlesOf bytes)) (front-clear bytes (first .fronted)) ∙ fault-at (axleFault bytes) 1 i (axlesOf bytes) 7 (first .within) before (axle-is bytes i f within out) (omega arith) ∙ rw (there, ← seven)

@@ -9,11 +9,11 @@ use mathlib.Core.Logic.{_⊎_}
 use lib.ListN.{length, take}
 use Rattle.member.specs.declared.record.Member.{Member}
 use Rattle.member.specs.Fields.{KIND, SPECIES, SPAN, CODE, MU-A, MU-B, FIELDS, MOST-MEMBERS, MOST-AXLES, field}
-use Rattle.member.specs.Format.{_‥_, In, used, rangeOf, suits, classRange, trackRange, weightRange, AllowedMember}
+use Rattle.member.specs.Format.{_‥_, In, used, rangeOf, suits, classRange, trackRange, AllowedMember}
 use Rattle.files.specs.declared.Refusal.{Refusal}
 use Rattle.files.specs.Words.{byteAt, wordAt}
 use Rattle.files.specs.SurveyFile.{SURVEY-HEADER, RECORD, countOf, recordAt}
-use Rattle.files.specs.VehicleFile.{VEHICLE-HEADER, AXLE, classOf, trackOf, axlesOf, weightAt, distanceAt, axleRange}
+use Rattle.files.specs.VehicleFile.{VEHICLE-HEADER, AXLE, AXLE-FIELDS, classOf, trackOf, axlesOf, axleField, axleRange}
 
 -- the letters TB and a third one, and version 1
 abbrev pub Marked : List ℕ → (letter : ℕ) → Type 0
@@ -114,8 +114,8 @@ pub data FrontFault (bytes : List ℕ) : ℕ → Type 0 where
 pub record FirstAxle (bytes : List ℕ) (i : ℕ) : Type 0 where
   pub fronted : Fronted bytes
   pub within : i < axlesOf bytes
-  pub fault : (¬ (In weightRange (weightAt bytes i))) ⊎ (¬ (In (axleRange i) (distanceAt bytes i)))
-  pub before : (k : ℕ) → k < i → (In weightRange (weightAt bytes k)) × (In (axleRange k) (distanceAt bytes k))
+  pub fault : (f : ℕ) × (f < AXLE-FIELDS) × (¬ (In (axleRange i f) (axleField bytes i f)))
+  pub before : (k f : ℕ) → k < i → f < AXLE-FIELDS → In (axleRange k f) (axleField bytes k f)
 
 -- "for a vehicle the place is the axle, 0 for class or track, which come first"
 pub record VehicleRefusal (bytes : List ℕ) (r : Refusal) : Type 0 where

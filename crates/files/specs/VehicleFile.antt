@@ -35,12 +35,25 @@ trackOf bytes = wordAt bytes 6
 abbrev pub axlesOf : List ℕ → ℕ
 axlesOf bytes = byteAt bytes 8
 
--- the axle of index i, from 0
+-- the fields of an axle
+abbrev pub WEIGHT : ℕ
+WEIGHT = 0
+
+abbrev pub DISTANCE : ℕ
+DISTANCE = 1
+
+abbrev pub AXLE-FIELDS : ℕ
+AXLE-FIELDS = 2
+
+-- the number in a field of the axle of index i, from 0
+abbrev pub axleField : List ℕ → (i f : ℕ) → ℕ
+axleField bytes i f = wordAt bytes (VEHICLE-HEADER + AXLE * i + 2 * f)
+
 abbrev pub weightAt : List ℕ → ℕ → ℕ
-weightAt bytes i = wordAt bytes (VEHICLE-HEADER + AXLE * i)
+weightAt bytes i = axleField bytes i WEIGHT
 
 abbrev pub distanceAt : List ℕ → ℕ → ℕ
-distanceAt bytes i = wordAt bytes (VEHICLE-HEADER + 2 + AXLE * i)
+distanceAt bytes i = axleField bytes i DISTANCE
 
 -- the mark is TBV; "7 .. class or track outside its range", "0 for class or track, which come first"
 unfoldable pub vehicleHeader : List ℕ → ℕ
@@ -50,24 +63,16 @@ vehicleHeader bytes =
     7 unless (isIn classRange (classOf bytes) && isIn trackRange (trackOf bytes)) ∷
     [])
 
--- "distance from the axle in front, 0 for the first, 1..2000 after"
-abbrev pub axleRange : ℕ → Range
-axleRange i = choose (eqb i 0) (0 ‥ 0) laterRange
+-- "weight 1..60000 and u16 distance from the axle in front, 0 for the first, 1..2000 after"
+unfoldable pub axleRange : (i f : ℕ) → Range
+axleRange i f = choose (eqb f WEIGHT) weightRange (choose (eqb i 0) (0 ‥ 0) laterRange)
 
--- the fields of an axle: 0 the weight, 1 the distance, each with its range
-abbrev pub AXLE-FIELDS : ℕ
-AXLE-FIELDS = 2
+-- a field is in its range
+unfoldable pub fieldWithin : List ℕ → (i f : ℕ) → Bool
+fieldWithin bytes i f = isIn (axleRange i f) (axleField bytes i f)
 
-abbrev pub axleField : List ℕ → (i f : ℕ) → ℕ
-axleField bytes i f = choose (eqb f 0) (weightAt bytes i) (distanceAt bytes i)
-
-abbrev pub fieldRange : (i f : ℕ) → Range
-fieldRange i f = choose (eqb f 0) weightRange (axleRange i)
-
-abbrev pub fieldWithin : List ℕ → (i f : ℕ) → Bool
-fieldWithin bytes i f = isIn (fieldRange i f) (axleField bytes i f)
-
-unfoldable pub axleWithin : List ℕ → ℕ → Bool
+-- and so is every field of the axle
+unfoldable pub axleWithin : List ℕ → (i : ℕ) → Bool
 axleWithin bytes i = all (fieldWithin bytes i) AXLE-FIELDS
 
 -- "7 a used number .. outside its range, .. or a first axle's distance other than 0"
@@ -100,7 +105,8 @@ vehicleOf bytes =
       track = centimetres (trackOf bytes);
       axles = axlesOf bytes;
       weights = each (λ i. kgf (weightAt bytes i)) (axlesOf bytes) ++ replicate (MOST-AXLES - axlesOf bytes) (kgf 0);
-      distances = each (λ i. centimetres (distanceAt bytes i)) (axlesOf bytes) ++ replicate (MOST-AXLES - axlesOf bytes) (centimetres 0);
+      distances =
+          each (λ i. centimetres (distanceAt bytes i)) (axlesOf bytes) ++ replicate (MOST-AXLES - axlesOf bytes) (centimetres 0);
     }
 
 -- a refused file gives a blank vehicle

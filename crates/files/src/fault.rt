@@ -3,6 +3,7 @@ use crate::ranges::inside;
 use crate::ranges::is_used;
 use crate::ranges::limits_of;
 use crate::ranges::suits_kind;
+use crate::words::wider;
 use member::record::CODE;
 use member::record::KIND;
 use member::record::Member;
@@ -13,16 +14,16 @@ ghost use Prim.Native.Nat.{_<_};
 ghost use Rattle.member.specs.Fields.{SPECIES, FIELDS};
 ghost use Rattle.files.specs.SurveyFile.{zeroed, within, codeFault};
 
-const LAST_KIND: u16 = 6;
+const LAST_KIND: u32 = 6;
 
-const LAST_SPECIES: u16 = 8;
+const LAST_SPECIES: u32 = 8;
 
 // The species is one of the list where the record uses it: `is_within` of that field, apart from it so that the loop over the
 // fields keeps the only call of `is_within` and can take it in.
 fn species_within(m: Member) -> bool
     ensures { λ r. ⌜ r ≡ within m SPECIES ⌝ }
 {
-    if inside(1, LAST_SPECIES, m.fields[SPECIES]) {
+    if inside(1, LAST_SPECIES, wider(m.fields[SPECIES])) {
         return true;
     }
     !is_used(m.fields[KIND], m.fields[CODE], SPECIES)
@@ -34,7 +35,7 @@ pub fn code_fault(m: Member) -> u64
 {
     let kind = m.fields[KIND];
     let code = m.fields[CODE];
-    if !inside(1, LAST_KIND, kind) {
+    if !inside(1, LAST_KIND, wider(kind)) {
         return 4;
     }
     if !species_within(m) {
@@ -66,7 +67,7 @@ pub fn is_within(m: Member, f: usize) -> bool
     let code = m.fields[CODE];
     let span = m.fields[SPAN];
     let range = limits_of(kind, code, span, f);
-    if inside(range.low, range.high, m.fields[f]) {
+    if inside(range.low, range.high, wider(m.fields[f])) {
         return true;
     }
     !is_used(kind, code, f)

@@ -1,6 +1,7 @@
 // The head of a file: mark, version, count of records and length.
 use crate::ranges::inside;
 use crate::words::wide;
+use crate::words::wider;
 use crate::words::word_at;
 ghost use mathlib.Core.Path.{_≡_};
 ghost use Prim.Native.Nat.{_≤_};
@@ -23,7 +24,7 @@ fn is_marked(bytes: &[u8], letter: u8) -> bool
 }
 
 // 1 shorter than the header, 2 mark or version, 3 count, 1 length; or 0.
-pub fn header_fault(bytes: &[u8], letter: u8, header: usize, most: u16, size: usize) -> u64
+pub fn header_fault(bytes: &[u8], letter: u8, header: usize, most: u32, size: usize) -> u64
     requires { ⌜ (5 ≤ header) × (header ≤ 16) × (size ≤ 64) ⌝ }
     ensures { λ r. ⌜ r ≡ headerFault letter header most size (now (bytes .entry)) ⌝ }
 {
@@ -34,7 +35,7 @@ pub fn header_fault(bytes: &[u8], letter: u8, header: usize, most: u16, size: us
         return 2;
     }
     let count = wide(bytes[header - 1]);
-    if !inside(1, most, count) {
+    if !inside(1, most, wider(count)) {
         return 3;
     }
     let records = count as usize;

@@ -1,4 +1,5 @@
-// The tables of document 01: which section suits a kind, which fields a record uses, and the ranges of those.
+// The tables of document 01: which section suits a kind, which fields a record uses, and the ranges of those and of an axle's.
+use crate::words::wider;
 use member::record::DISTANCE;
 use member::record::HEIGHT;
 use member::record::MU_A;
@@ -15,11 +16,12 @@ ghost use Prim.Native.Nat.{_<_};
 ghost use Rattle.member.specs.Fields.{FIELDS};
 ghost use Rattle.member.specs.Format.{_‥_, holds, unusedByKind, unusedByCode, used, distanceRange, sectionRange, rangeOf, suits};
 ghost use Rattle.files.specs.Reading.{isIn};
+ghost use Rattle.files.specs.VehicleFile.{axleRange};
 
 // The ranges of the fields that no code and no kind changes; 0 for x and for s1 to s6.
-const LOW: [u16; 16] = [1, 1, 100, 10, 0, 10, 0, 1, 0, 0, 0, 0, 0, 0, 1, 1];
+const LOW: [u32; 16] = [1, 1, 100, 10, 0, 10, 0, 1, 0, 0, 0, 0, 0, 0, 1, 1];
 
-const HIGH: [u16; 16] = [
+const HIGH: [u32; 16] = [
     6, // kind
     8, // species
     5000, // l
@@ -39,7 +41,7 @@ const HIGH: [u16; 16] = [
 ];
 
 // The ranges of s1 to s6, six for each code; 0 for what a code lacks.
-const SECTION_LOW: [u16; 24] = [
+const SECTION_LOW: [u32; 24] = [
     13, // log, diameter
     0, // rot
     1, // tiers
@@ -66,7 +68,7 @@ const SECTION_LOW: [u16; 24] = [
     0,
 ];
 
-const SECTION_HIGH: [u16; 24] = [
+const SECTION_HIGH: [u32; 24] = [
     39, // log, diameter
     60, // rot
     3, // tiers
@@ -95,13 +97,20 @@ const SECTION_HIGH: [u16; 24] = [
 
 const LAST_CODE: u16 = 4;
 
+// The field of an axle that holds its weight; the other holds its distance.
+pub const WEIGHT: usize = 0;
+
+const MOST_WEIGHT: u32 = 60000;
+
+const MOST_DISTANCE: u32 = 2000;
+
 pub struct Limits {
-    pub low: u16,
-    pub high: u16,
+    pub low: u32,
+    pub high: u32,
 }
 
 // A number lies between two, both included.
-pub fn inside(low: u16, high: u16, n: u16) -> bool
+pub fn inside(low: u32, high: u32, n: u32) -> bool
     ensures { λ r. ⌜ r ≡ isIn (low ‥ high) n ⌝ }
 {
     let above = low <= n;
@@ -224,8 +233,25 @@ fn distance_limits(kind: u16, span: u16) -> Limits
     if span == 0 {
         return Limits { low: 1, high: 0 };
     }
+    let high = wider(span - 1);
+    Limits { low: 1, high }
+}
+
+// "weight 1..60000 and .. distance from the axle in front, 0 for the first, 1..2000 after"
+pub fn axle_limits(axle: usize, field: usize) -> Limits
+    ensures { λ r. ⌜ (r .low ≡ axleRange axle field .low) × (r .high ≡ axleRange axle field .high) ⌝ }
+{
+    if field == WEIGHT {
+        return Limits {
+            low: 1,
+            high: MOST_WEIGHT,
+        };
+    }
+    if axle == 0 {
+        return Limits { low: 0, high: 0 };
+    }
     Limits {
         low: 1,
-        high: span - 1,
+        high: MOST_DISTANCE,
     }
 }

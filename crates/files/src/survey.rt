@@ -118,7 +118,7 @@ fn refused(answer: Reading) -> SurveyRead
 pub fn read_survey(bytes: &[u8]) -> SurveyRead
     ensures { λ r. ⌜ r ≡ readSurvey (now (bytes .entry)) ⌝ }
 {
-    let number = header_fault(bytes, b'R', HEADER, MOST_MEMBERS as u16, RECORD);
+    let number = header_fault(bytes, b'R', HEADER, MOST_MEMBERS as u32, RECORD);
     if number != 0 {
         return refused(Reading::Refused(Refusal { number, place: 0 }));
     }

@@ -12,6 +12,18 @@ pub fn wide(byte: u8) -> u16
     byte as u16
 }
 
+pub fn wider(word: u16) -> u32
+    ensures { λ r. ⌜ r ≡ word ⌝ }
+{
+    word as u32
+}
+
+pub fn widest(number: u32) -> u64
+    ensures { λ r. ⌜ r ≡ number ⌝ }
+{
+    number as u64
+}
+
 // The u16 at a place, its low byte first.
 pub fn word_at(bytes: &[u8], at: usize) -> u16
     requires { ⌜ at + 1 < length (now bytes) ⌝ }

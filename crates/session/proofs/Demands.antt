@@ -1,7 +1,7 @@
 -- The three demands hold: each part from the law of the crate whose matter it is, and from the cases of the calls' definitions.
 -- Assumes nothing.
 use Prim.Native.Nat.{ℕ, _+_, _-_, _*_, _≤_, _<_}
-use mathlib.Core.Path.{_≡_, refl, sym, ap, _∙_}
+use mathlib.Core.Path.{_≡_, refl, sym, ap, subst, _∙_}
 use mathlib.Core.Bool.{Bool, true, false, not}
 use mathlib.Core.List.{List, [], _∷_}
 use mathlib.Core.Logic.{_⊎_, inl, inr, ⊎-elim}
@@ -9,12 +9,15 @@ use native.Mathlib.Nat.{add-sub-cancel}
 use native.Mathlib.Omega.{arith}
 use lib.Dec.{eqb, leb}
 use lib.ListN.{length}
+use lib.Seq.{take-at}
 use borrow.Author.Tests.{ne-eqb, eqb-false, le-leb}
 use Rattle.section.specs.Choose.{choose}
 use Rattle.section.specs.Fraction.{whole, _⊕_, _⊑_, _⊏_}
 use Rattle.rating.specs.Compare.{SamePlaces, Heavier}
 use Rattle.member.specs.Format.{AllowedMember, AllowedVehicle, In, _‥_}
-use Rattle.rating.specs.Judgement.{ratingOf, judgementOf, written}
+use Rattle.member.specs.Formula.{Permitted}
+use Rattle.member.specs.PermittedLoad.{formulaOf}
+use Rattle.rating.specs.Judgement.{permittedFor, ratingOf, judgementOf, written}
 use Rattle.rating.specs.Surveyed.{AllowedSurvey, AllowedMembers, memberAt}
 use Rattle.section.specs.Units.{weight}
 use Rattle.influence.specs.Influence.{behind}
@@ -31,8 +34,10 @@ use Rattle.rating.proofs.Surveys.{members-counted, members-allowed}
 use Rattle.files.specs.Allowed.{AllowedSurveyFile, AllowedVehicleFile}
 use Rattle.files.specs.Refused.{SurveyRefusal, VehicleRefusal}
 use Rattle.files.specs.Reading.{_unless_, isIn}
-use Rattle.files.specs.SurveyFile.{readSurvey, surveyOf}
+use Rattle.files.specs.SurveyFile.{countOf, recordAt, readSurvey, surveyOf}
 use Rattle.files.specs.VehicleFile.{readVehicle, vehicleOf}
+use Rattle.files.specs.Words.{each}
+use Rattle.files.proofs.Each.{length-each, getD-each}
 use Rattle.files.specs.declared.Reading.{Reading}
 use Rattle.files.specs.declared.Reading.the-variants.{Taken, Refused}
 use Rattle.files.specs.declared.Refusal.{Refusal}
@@ -41,52 +46,12 @@ use Rattle.files.proofs.Surveys as surveys
 use Rattle.files.proofs.Vehicles as vehicles
 use Rattle.session.specs.Answers.{Outcome, Answer, Values, RefusedAt, refusedBy, ratingValues, judgementValues}
 use Rattle.session.specs.Calls.{newSession, members, stateFault, rateFault, judgeFault, loadSurvey, loadVehicle, storedSurvey, storedVehicle, unlessFault, rate, judge, judgeList, judgeFiles}
-use Rattle.session.specs.Demands.{FromState, Demand1, Demand2, Demand3, Answers, Governs, Holds, Covers, Falls}
+use Rattle.session.specs.Demands.{FromState, Demand1, Demand2, Demand3, Answers, FilesAnswered, Governs, Covers, Falls, recordsOf}
+use Rattle.session.specs.History.{Holds, after}
 use Rattle.session.specs.declared.Session.{Session}
-use Rattle.session.proofs.State.{taken-survey-allowed}
-
--- two answers are never both
-abbrev isRefusal : Answer → Bool
-isRefusal (Values values) = false
-isRefusal (RefusedAt n p) = true
-
-never-both : {X : Type 0} (values : List ℕ) (n p : ℕ) → Values values ≡ RefusedAt n p → X
-never-both values n p e = absurd (mathlib.Core.Bool.false≢true (ap isRefusal e))
-
-reading-case : (a : Reading) (P : Reading → Type 0) → (a ≡ Taken → P Taken) → ((r : Refusal) → a ≡ Refused r → P (Refused r)) → P a
-reading-case Taken P t f = t refl
-reading-case (Refused r) P t f = f r refl
-
--- a load that takes its file, by its answer
-module _ (s : Session) (bytes : List ℕ) where
-  survey-read : loadSurvey s bytes .answer ≡ Values [] → readSurvey bytes .answer ≡ Taken
-  unfolding loadSurvey
-  survey-read =
-      reading-case (readSurvey bytes .answer) (λ a. storedSurvey s a (readSurvey bytes .survey) .answer ≡ Values [] → a ≡ Taken) (λ e h. refl)
-      (λ r e h. never-both [] (r .number) (r .place) (sym h))
-
-  vehicle-read : loadVehicle s bytes .answer ≡ Values [] → readVehicle bytes .answer ≡ Taken
-  unfolding loadVehicle
-  vehicle-read =
-      reading-case (readVehicle bytes .answer) (λ a. storedVehicle s a (readVehicle bytes .vehicle) .answer ≡ Values [] → a ≡ Taken) (λ e h. refl)
-      (λ r e h. never-both [] (r .number) (r .place) (sym h))
-
-  survey-load : readSurvey bytes .answer ≡ Taken → loadSurvey s bytes ≡ record { session = record { survey = surveyOf bytes; vehicle = s .vehicle }; answer = Values [] }
-  unfolding loadSurvey
-  survey-load e = rw (e, surveys.taken-survey bytes e)
-
-  vehicle-load : readVehicle bytes .answer ≡ Taken → loadVehicle s bytes ≡ record { session = record { survey = s .survey; vehicle = vehicleOf bytes }; answer = Values [] }
-  unfolding loadVehicle
-  vehicle-load e = rw (e, vehicles.taken-vehicle bytes e)
-
-  -- and one that refuses it
-  survey-refused : (r : Refusal) → readSurvey bytes .answer ≡ Refused r → loadSurvey s bytes .answer ≡ refusedBy r
-  unfolding loadSurvey
-  survey-refused r e = rw e
-
-  vehicle-refused : (r : Refusal) → readVehicle bytes .answer ≡ Refused r → loadVehicle s bytes .answer ≡ refusedBy r
-  unfolding loadVehicle
-  vehicle-refused r e = rw e
+use Rattle.session.proofs.History.{last-held, in-turn, in-reverse, calls-valid}
+use Rattle.session.proofs.Loads.{never-both, reading-case, survey-read, vehicle-read, survey-load, vehicle-load, survey-refused, vehicle-refused}
+use Rattle.session.proofs.State.{taken-survey-allowed, valid-new}
 
 -- a fault is an answer from the state, or there is none
 fault-answer : (numbers : ℕ → Type 0) (n : ℕ) (values : List ℕ) → (n ≡ 0) ⊎ numbers n → FromState numbers (unlessFault n values)
@@ -148,6 +113,7 @@ demand1 =
       vehicle-named = λ s bytes r h. vehicle-refused s bytes r (vehicles.named-refused bytes r h);
       rate-answered = λ s place. fault-answer (In (11 ‥ 13)) _ _ (rate-number (s .survey .count) (s .vehicle .axles) place);
       judge-answered = λ s list. fault-answer (λ n. (In (11 ‥ 12) n) ⊎ (n ≡ 14)) _ _ (judge-number (s .survey .count) (s .vehicle .axles) (length list));
+      valid = λ calls. calls-valid newSession calls valid-new;
       survey-kept = λ s bytes n p.
           reading-case (readSurvey bytes .answer) (λ a. storedSurvey s a (readSurvey bytes .survey) .answer ≡ RefusedAt n p → storedSurvey s a (readSurvey bytes .survey) .session ≡ s)
           (λ e h. never-both [] n p h)
@@ -225,13 +191,22 @@ module _ {s : Session} {survey vehicle : List ℕ} (h : Holds s survey vehicle) 
   held-vehicle : AllowedVehicle (s .vehicle)
   held-vehicle =
       let e = vehicle-read newSession vehicle (h .vehicle-taken) in
-      rw (h .vehicle-held, vehicle-load newSession vehicle e, ← (vehicles.taken-vehicle vehicle e)) (vehicles.taken-sound vehicle e)
+      rw (h .vehicle-held, vehicle-load newSession vehicle e, ← (vehicles.taken-vehicle vehicle e)) (vehicles.taken-vehicle-allowed vehicle e)
 
   held-members : AllowedMembers (members s)
   held-members = members-allowed held-survey
 
   held-answers : Answers s
   held-answers = all-answers s (held-survey .count .0) (held-vehicle .axles .0)
+
+  -- the files' own records and numbers
+  held-files : (members s ≡ recordsOf survey) × (s .survey .count ≡ countOf survey) × (s .vehicle ≡ vehicleOf vehicle)
+  held-files =
+      let e = survey-read newSession survey (h .survey-taken) in
+      let f = vehicle-read newSession vehicle (h .vehicle-taken) in
+      let is : s .survey ≡ surveyOf survey = h .survey-held ∙ ap (λ (o : Outcome). o .session .survey) (survey-load newSession survey e) in
+      let same : s .vehicle ≡ vehicleOf vehicle = h .vehicle-held ∙ ap (λ (o : Outcome). o .session .vehicle) (vehicle-load newSession vehicle f) in
+      (rw is (take-at (each (recordAt survey) (countOf survey)) _ (countOf survey) (length-each (recordAt survey) (countOf survey))), rw is, same)
 
 -- the greatest is what some position gives, so a load less than one unit above it is less than one unit above that position's
 covered : {m : Member} (a : AllowedMember m) (v : Vehicle) → Covers m v (vehicleLoadOn m v)
@@ -261,6 +236,23 @@ falls s s' survey vehicle survey' vehicle' h h' p v =
       bridge-verdict = bridge-stays-refused v a a' (same-places p);
     }
 
+-- what is held, said of the files
+files-answered : (s : Session) (survey vehicle : List ℕ) → Holds s survey vehicle → FilesAnswered s survey vehicle
+files-answered s survey vehicle h =
+    let (ms, n, v) = held-files h in
+    let a = held-answers h in
+    let at : (i : ℕ) → i < countOf survey → memberAt (members s) i ≡ recordAt survey i = λ i l. rw ms (getD-each (recordAt survey) (countOf survey) i _ l) in
+    let within : (i : ℕ) → i < countOf survey → i < length (members s) = λ i l. rw (ms, length-each (recordAt survey) (countOf survey)) l in
+    record {
+      rated = λ i l. rw (← at i l, ← v) (a .rated i (rw n l));
+      judged = λ list l. rw (← ms, ← v) (a .judged list (rw n l));
+      listed = λ list l. rw (← ms, ← v) (a .listed list (rw n l));
+      permitted-load = λ i l.
+          subst (λ (w : Vehicle). Permitted (formulaOf (recordAt survey i) (w .class) (w .track .0)) (permittedFor w (recordAt survey i))) v
+          (rw (← at i l) (permitted-load-exact (held-members h i (within i l)) (s .vehicle .class) (s .vehicle .track .0)));
+      vehicle-load = λ i l. rw (← at i l, ← v) (covered (held-members h i (within i l)) (s .vehicle));
+    }
+
 pub demand3 : Demand3
 demand3 =
     record {
@@ -268,4 +260,14 @@ demand3 =
       permitted-load = λ s survey vehicle h i l. permitted-load-exact (held-members h i l) (s .vehicle .class) (s .vehicle .track .0);
       vehicle-load = λ s survey vehicle h i l. covered (held-members h i l) (s .vehicle);
       falling = falls;
+      held = last-held;
+      held-in-turn = λ survey vehicle a b. in-turn a b;
+      held-in-reverse = λ survey vehicle a b. in-reverse a b;
+      answered = λ s calls survey vehicle l. files-answered (after s calls) survey vehicle (last-held s calls survey vehicle l);
+      falling-after = λ s s' calls calls' survey vehicle survey' vehicle' l l' p v.
+          let h = last-held s calls survey vehicle l in
+          let h' = last-held s' calls' survey' vehicle' l' in
+          let f = held-files h in
+          let f' = held-files h' in
+          falls (after s calls) (after s' calls') survey vehicle survey' vehicle' h h' (rw (f .0, f' .0) p) (rw (f .2, f' .2) v);
     }

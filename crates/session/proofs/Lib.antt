@@ -1,2 +1,4 @@
 pub mod Demands
+pub mod History
+pub mod Loads
 pub mod State

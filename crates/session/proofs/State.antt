@@ -1,4 +1,4 @@
--- What the tests of the state say where they find no fault, and that every call leaves a sound session.
+-- What the tests of the state say where they find no fault, and that every call leaves a valid session.
 -- Assumes nothing.
 use Prim.Native.Nat.{ℕ, _-_, _*_, _≤_, _<_}
 use mathlib.Core.Path.{_≡_, refl, sym, _∙_}
@@ -23,9 +23,9 @@ use Rattle.files.specs.declared.SurveyRead.{SurveyRead}
 use Rattle.files.specs.declared.VehicleRead.{VehicleRead}
 use Rattle.files.proofs.Tests.{none, passed, in-range}
 use Rattle.files.proofs.Surveys.{taken-count, taken-members}
-use Rattle.files.proofs.Vehicles.{taken-sound}
+use Rattle.files.proofs.Vehicles.{taken-vehicle-allowed}
 use Rattle.session.specs.Answers.{loaded, judged, judgeAnswer, refusedBy}
-use Rattle.session.specs.Calls.{Sound, newSession, stateFault, rateFault, judgeFault, loadSurvey, loadVehicle, judge, judgeFiles}
+use Rattle.session.specs.Calls.{Valid, newSession, stateFault, rateFault, judgeFault, loadSurvey, loadVehicle, judge, judgeFiles}
 use Rattle.session.specs.declared.AfterJudge.{AfterJudge}
 use Rattle.session.specs.declared.AfterLoad.{AfterLoad}
 use Rattle.session.specs.declared.Session.{Session}
@@ -66,21 +66,21 @@ judge-clear members axles entries e =
     let second = none (14 unless leb (2 * members) entries) [] (first .1) in
     (state-clear members axles (first .0), leb-true (2 * members) entries (passed 14 (leb (2 * members) entries) (omega arith) (second .0)))
 
--- a session that is new, and one with a file that was taken, is sound
-pub sound-new : Sound newSession
-sound-new = record { survey = λ h. absurd (omega arith); vehicle = λ h. absurd (omega arith) }
+-- a session that is new, and one with a file that was taken, is valid
+pub valid-new : Valid newSession
+valid-new = record { survey = λ h. absurd (omega arith); vehicle = λ h. absurd (omega arith) }
 
 pub taken-survey-allowed : (bytes : List ℕ) → readSurvey bytes .answer ≡ Taken → AllowedSurvey (readSurvey bytes .survey)
 taken-survey-allowed bytes e = record { count = taken-count bytes e; members = λ i h. taken-members bytes e i _ h }
 
-pub sound-survey : (s : Session) (bytes : List ℕ) → Sound s → readSurvey bytes .answer ≡ Taken → Sound (record { survey = readSurvey bytes .survey; vehicle = s .vehicle })
-sound-survey s bytes h e = record { survey = λ l. taken-survey-allowed bytes e; vehicle = h .vehicle }
+pub valid-survey : (s : Session) (bytes : List ℕ) → Valid s → readSurvey bytes .answer ≡ Taken → Valid (record { survey = readSurvey bytes .survey; vehicle = s .vehicle })
+valid-survey s bytes h e = record { survey = λ l. taken-survey-allowed bytes e; vehicle = h .vehicle }
 
-pub sound-vehicle : (s : Session) (bytes : List ℕ) → Sound s → readVehicle bytes .answer ≡ Taken → Sound (record { survey = s .survey; vehicle = readVehicle bytes .vehicle })
-sound-vehicle s bytes h e = record { survey = h .survey; vehicle = λ l. taken-sound bytes e }
+pub valid-vehicle : (s : Session) (bytes : List ℕ) → Valid s → readVehicle bytes .answer ≡ Taken → Valid (record { survey = s .survey; vehicle = readVehicle bytes .vehicle })
+valid-vehicle s bytes h e = record { survey = h .survey; vehicle = λ l. taken-vehicle-allowed bytes e }
 
 -- a survey has at most as many members as a file can
-pub few-members : (s : Session) → Sound s → s .survey .count ≤ MOST-MEMBERS
+pub few-members : (s : Session) → Valid s → s .survey .count ≤ MOST-MEMBERS
 few-members s h = elim (decLe (s .survey .count) 0) [ yes l ↦ omega arith | no l ↦ h .survey (omega arith) .count .1 ]
 
 -- a load by its answer: what was read is stored, or nothing is

@@ -26,7 +26,7 @@ newSession = record { survey = blankSurvey; vehicle = blankVehicle }
 
 -- What a session that was got from `newSession` by calls keeps to: a survey or a vehicle that is loaded is as its file's format
 -- allows.
-pub record Sound (s : Session) : Type 0 where
+pub record Valid (s : Session) : Type 0 where
   pub survey : 0 < s .survey .count → AllowedSurvey (s .survey)
   pub vehicle : 0 < s .vehicle .axles → AllowedVehicle (s .vehicle)
 

@@ -6,8 +6,8 @@ use mathlib.Core.List.{List, [], _∷_}
 use mathlib.Core.Logic.{_⊎_, _↔_}
 use lib.ListN.{length}
 use Rattle.section.specs.Fraction.{Fraction, Sound, whole, _⊕_, _⊑_, _⊏_}
-use Rattle.influence.specs.Influence.{gives, behind}
 use Rattle.section.specs.Units.{weight}
+use Rattle.influence.specs.Influence.{gives, behind}
 use Rattle.rating.specs.Compare.{SamePlaces, Heavier}
 use Rattle.member.specs.Format.{In, _‥_}
 use Rattle.member.specs.Formula.{Permitted}
@@ -22,11 +22,13 @@ use Rattle.member.specs.declared.record.Member.{Member}
 use Rattle.member.specs.declared.record.Vehicle.{Vehicle}
 use Rattle.files.specs.Allowed.{AllowedSurveyFile, AllowedVehicleFile}
 use Rattle.files.specs.Refused.{SurveyRefusal, VehicleRefusal}
-use Rattle.files.specs.SurveyFile.{surveyOf}
+use Rattle.files.specs.SurveyFile.{countOf, recordAt, surveyOf}
 use Rattle.files.specs.VehicleFile.{vehicleOf}
+use Rattle.files.specs.Words.{each}
 use Rattle.files.specs.declared.Refusal.{Refusal}
 use Rattle.session.specs.Answers.{Answer, Values, RefusedAt, refusedBy, ratingValues, judgementValues}
-use Rattle.session.specs.Calls.{newSession, members, loadSurvey, loadVehicle, rate, judge, judgeList, judgeFiles}
+use Rattle.session.specs.Calls.{Valid, newSession, members, loadSurvey, loadVehicle, rate, judge, judgeList, judgeFiles}
+use Rattle.session.specs.History.{Call, LoadSurvey, LoadVehicle, after, TakenLast, Holds}
 use Rattle.session.specs.declared.Session.{Session}
 
 -- In a session: the permitted load, the vehicle load and the rating of the member of index i (its place less 1), and the bridge's
@@ -61,6 +63,8 @@ pub record Demand1 : Type 0 where
   pub vehicle-named : (s : Session) (bytes : List ℕ) (r : Refusal) → VehicleRefusal bytes r → loadVehicle s bytes .answer ≡ refusedBy r
   pub rate-answered : (s : Session) (place : ℕ) → FromState (In (11 ‥ 13)) (rate s place .answer)
   pub judge-answered : (s : Session) (list : List ℕ) → FromState (λ n. (In (11 ‥ 12) n) ⊎ (n ≡ 14)) (judge s list .answer)
+  -- all that the calls' contracts ask of a session: it holds after any calls from a new one
+  pub valid : (calls : List Call) → Valid (after newSession calls)
   -- "A refused file or call leaves survey, vehicle and answer list untouched."
   pub survey-kept : (s : Session) (bytes : List ℕ) (n p : ℕ) →
       loadSurvey s bytes .answer ≡ RefusedAt n p → loadSurvey s bytes .session ≡ s
@@ -103,13 +107,6 @@ pub record Demand2 : Type 0 where
   pub files-judged : (survey vehicle : List ℕ) → AllowedSurveyFile survey → AllowedVehicleFile vehicle →
       judgeFiles survey vehicle .answer ≡ Values (judgementValues (judgementIn (record { survey = surveyOf survey; vehicle = vehicleOf vehicle })))
 
--- "an accepted file is one that its load call takes": the session holds both, whatever was loaded or refused before and after
-pub record Holds (s : Session) (survey vehicle : List ℕ) : Type 0 where
-  pub survey-taken : loadSurvey newSession survey .answer ≡ Values []
-  pub survey-held : s .survey ≡ loadSurvey newSession survey .session .survey
-  pub vehicle-taken : loadVehicle newSession vehicle .answer ≡ Values []
-  pub vehicle-held : s .vehicle ≡ loadVehicle newSession vehicle .session .vehicle
-
 -- what the position with the front axle u half centimetres from an end gives, in one direction of travel and in the other
 module _ (m : Member) (v : Vehicle) where
   abbrev pub oneWay : (u : ℕ) → Fraction
@@ -126,6 +123,24 @@ pub record Covers (m : Member) (v : Vehicle) (load : ℕ) : Type 0 where
   pub one-way : (u : ℕ) → oneWay m v u ⊑ whole load
   pub other-way : (u : ℕ) → otherWay m v u ⊑ whole load
   pub near : ((u : ℕ) × (whole load ⊏ oneWay m v u ⊕ whole 1)) ⊎ ((u : ℕ) × (whole load ⊏ otherWay m v u ⊕ whole 1))
+
+-- the members' records of a survey file
+abbrev pub recordsOf : (survey : List ℕ) → List Member
+recordsOf survey = each (recordAt survey) (countOf survey)
+
+-- what rate and judge answer and write in a session that holds two files, by these files' own records, and that the figures are those
+-- of demand 3
+pub record FilesAnswered (s : Session) (survey vehicle : List ℕ) : Type 0 where
+  pub rated : (i : ℕ) → i < countOf survey →
+      rate s (i + 1) .answer ≡ Values (ratingValues (ratingOf (recordAt survey i) (vehicleOf vehicle)))
+  pub judged : (list : List ℕ) → 2 * countOf survey ≤ length list →
+      judge s list .answer ≡ Values (judgementValues (judgementOf (recordsOf survey) (vehicleOf vehicle)))
+  pub listed : (list : List ℕ) → 2 * countOf survey ≤ length list →
+      judgeList s list ≡ written (vehicleOf vehicle) (recordsOf survey) list
+  pub permitted-load : (i : ℕ) → i < countOf survey →
+      Permitted (formulaOf (recordAt survey i) (vehicleOf vehicle .class) (vehicleOf vehicle .track .0)) (permittedFor (vehicleOf vehicle) (recordAt survey i))
+  pub vehicle-load : (i : ℕ) → i < countOf survey →
+      Covers (recordAt survey i) (vehicleOf vehicle) (vehicleLoadOn (recordAt survey i) (vehicleOf vehicle))
 
 -- of two sessions: "the permitted load of a shared member never rises, its vehicle load never falls, the bridge's figure never rises,
 -- and no verdict, of a shared member or the bridge, turns from refuse to pass"
@@ -152,3 +167,22 @@ pub record Demand3 : Type 0 where
       SamePlaces (members s) (members s') →
       Heavier (s .vehicle) (s' .vehicle) →
       Falls s s'
+  -- The premise is met by calls alone: after any row of calls, whatever was held before it, whatever among them was refused, rated or
+  -- judged, the session holds the files that were taken last
+  pub held : (s : Session) (calls : List Call) (survey vehicle : List ℕ) → TakenLast s calls survey vehicle →
+      Holds (after s calls) survey vehicle
+  -- so after a load of each, in either order
+  pub held-in-turn : (survey vehicle : List ℕ) → AllowedSurveyFile survey → AllowedVehicleFile vehicle →
+      Holds (after newSession (LoadSurvey survey ∷ LoadVehicle vehicle ∷ [])) survey vehicle
+  pub held-in-reverse : (survey vehicle : List ℕ) → AllowedSurveyFile survey → AllowedVehicleFile vehicle →
+      Holds (after newSession (LoadVehicle vehicle ∷ LoadSurvey survey ∷ [])) survey vehicle
+  -- what is answered and written there, and what is said above of these figures
+  pub answered : (s : Session) (calls : List Call) (survey vehicle : List ℕ) → TakenLast s calls survey vehicle →
+      FilesAnswered (after s calls) survey vehicle
+  -- and of two rows of calls
+  pub falling-after : (s s' : Session) (calls calls' : List Call) (survey vehicle survey' vehicle' : List ℕ) →
+      TakenLast s calls survey vehicle →
+      TakenLast s' calls' survey' vehicle' →
+      SamePlaces (recordsOf survey) (recordsOf survey') →
+      Heavier (vehicleOf vehicle) (vehicleOf vehicle') →
+      Falls (after s calls) (after s' calls')

@@ -4,7 +4,7 @@ ghost use mathlib.Core.Path.{_≡_};
 ghost use Rattle.session.specs.Answers.{loaded, rated, judged, judgeAnswer};
 ghost use Prim.Native.Nat.{_≤_};
 ghost use Rattle.member.specs.Fields.{MOST-MEMBERS};
-ghost use Rattle.session.specs.Calls.{Sound, newSession, loadSurvey, loadVehicle, stateFault, rateFault, judgeFault, rate, judge, judgeList, judgeFiles};
+ghost use Rattle.session.specs.Calls.{Valid, newSession, loadSurvey, loadVehicle, stateFault, rateFault, judgeFault, rate, judge, judgeList, judgeFiles};
 use files::Reading;
 use files::Refusal;
 use files::survey::blank_survey;
@@ -55,7 +55,7 @@ impl Session {
     // A session with nothing loaded.
     pub fn new() -> Self
         ensures is { λ r. ⌜ r ≡ newSession ⌝ }
-        ensures sound { λ r. ⌜ Sound r ⌝ }
+        ensures valid { λ r. ⌜ Valid r ⌝ }
     {
         let survey = blank_survey();
         let vehicle = blank_vehicle();
@@ -64,9 +64,9 @@ impl Session {
 
     // Load a survey: a file that is taken replaces the survey and nothing else; a refused one replaces nothing.
     pub fn load_survey(self, bytes: &[u8]) -> AfterLoad
-        requires { ⌜ Sound self ⌝ }
+        requires { ⌜ Valid self ⌝ }
         ensures is { λ r. ⌜ loaded r ≡ loadSurvey self (now (bytes .entry)) ⌝ }
-        ensures sound { λ r. ⌜ Sound (r .session) ⌝ }
+        ensures valid { λ r. ⌜ Valid (r .session) ⌝ }
     {
         let read = read_survey(bytes);
         let answer = read.answer;
@@ -86,9 +86,9 @@ impl Session {
 
     // Load a vehicle, in the same way.
     pub fn load_vehicle(self, bytes: &[u8]) -> AfterLoad
-        requires { ⌜ Sound self ⌝ }
+        requires { ⌜ Valid self ⌝ }
         ensures is { λ r. ⌜ loaded r ≡ loadVehicle self (now (bytes .entry)) ⌝ }
-        ensures sound { λ r. ⌜ Sound (r .session) ⌝ }
+        ensures valid { λ r. ⌜ Valid (r .session) ⌝ }
     {
         let read = read_vehicle(bytes);
         let answer = read.answer;
@@ -155,9 +155,9 @@ fn judge_fault(members: usize, axles: usize, entries: usize) -> u64
 impl Session {
     // Rate the member at a place.
     pub fn rate(self, place: u64) -> AfterRate
-        requires { ⌜ Sound self ⌝ }
+        requires { ⌜ Valid self ⌝ }
         ensures is { λ r. ⌜ rated r ≡ rate self place ⌝ }
-        ensures sound { λ r. ⌜ Sound (r .session) ⌝ }
+        ensures valid { λ r. ⌜ Valid (r .session) ⌝ }
     {
         let survey = self.survey;
         let vehicle = self.vehicle;
@@ -180,10 +180,10 @@ impl Session {
 
     // Judge the bridge, and fill the list with permitted load and vehicle load of each member.
     pub fn judge(self, list: &mut [u64]) -> AfterJudge
-        requires { ⌜ Sound self ⌝ }
+        requires { ⌜ Valid self ⌝ }
         ensures is { λ r. ⌜ judged r ≡ judge self (now (list .entry)) ⌝ }
         ensures list { λ r. ⌜ now (list .exit) ≡ judgeList self (now (list .entry)) ⌝ }
-        ensures sound { λ r. ⌜ Sound (r .session) ⌝ }
+        ensures valid { λ r. ⌜ Valid (r .session) ⌝ }
     {
         let survey = self.survey;
         let vehicle = self.vehicle;

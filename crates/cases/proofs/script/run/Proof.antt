@@ -1,13 +1,13 @@
--- `run` is safe and ends: the place in the script goes up by a step's head at least, and every call hands back a sound session.
+-- `run` is safe and ends: the place in the script goes up by a step's head at least, and every call hands back a valid session.
 use Prim.Native.Nat.{_≤_, _-_}
 use borrow.Author.Needs.{needs}
 use lib.ListN.{length}
-use Rattle.session.specs.Calls.{Sound}
+use Rattle.session.specs.Calls.{Valid}
 use Rattle.cases.proofs.script.run.Statement.{statement}
 use Rattle.cases.proofs.script.run.Tie as tie
 
 abbrev Inv-loop : tie.InvT-loop
-Inv-loop script session₀ at₀ session at = (at ≤ length script) × (Sound session)
+Inv-loop script session₀ at₀ session at = (at ≤ length script) × (Valid session)
 
 abbrev μ-loop : tie.MeasureT-loop
 μ-loop script session₀ at₀ session at = length script - at

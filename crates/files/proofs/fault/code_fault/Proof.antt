@@ -11,30 +11,45 @@ element-copy-out-kind c = search needs
 element-copy-out-code : tie.Need-element-copy-out-code
 element-copy-out-code c = search needs
 
+wider-requires : tie.Need-wider-requires
+wider-requires c κs = search needs
+
 inside-requires : tie.Need-inside-requires
 inside-requires c κs = search needs
 
 returns : tie.Need-returns
 unfolding codeFault
-returns c = rw (fails (c .before .inside .ensures) (c .if1 .taken))
+returns c =
+    let i = c .before in
+    let kind = rw (i .before .wider .ensures) at (i .inside .ensures) in
+    rw (fails kind (c .if1 .taken))
 
 species-within-requires : tie.Need-species-within-requires
 species-within-requires c κs = search needs
 
 returns-2 : tie.Need-returns-2
 unfolding codeFault
-returns-2 c = rw (holds (c .before .before .before .inside .ensures) (c .before .before .if1 .left), fails (c .before .species-within .ensures) (c .if2 .taken))
+returns-2 c =
+    let i = c .before .before .before in
+    let kind = rw (i .before .wider .ensures) at (i .inside .ensures) in
+    rw (holds kind (c .before .before .if1 .left), fails (c .before .species-within .ensures) (c .if2 .taken))
 
 suits-kind-requires : tie.Need-suits-kind-requires
 suits-kind-requires c κs = search needs
 
 returns-3 : tie.Need-returns-3
 unfolding codeFault
-returns-3 c = rw (holds (c .before .before .before .before .before .inside .ensures) (c .before .before .before .before .if1 .left), holds (c .before .before .before .species-within .ensures) (c .before .before .if2 .left), fails (c .before .suits-kind .ensures) (c .if3 .taken))
+returns-3 c =
+    let i = c .before .before .before .before .before in
+    let kind = rw (i .before .wider .ensures) at (i .inside .ensures) in
+    rw (holds kind (c .before .before .before .before .if1 .left), holds (c .before .before .before .species-within .ensures) (c .before .before .if2 .left), fails (c .before .suits-kind .ensures) (c .if3 .taken))
 
 returns-4 : tie.Need-returns-4
 unfolding codeFault
-returns-4 c = rw (holds (c .before .before .before .before .before .inside .ensures) (c .before .before .before .before .if1 .left), holds (c .before .before .before .species-within .ensures) (c .before .before .if2 .left), holds (c .before .suits-kind .ensures) (c .if3 .left))
+returns-4 c =
+    let i = c .before .before .before .before .before in
+    let kind = rw (i .before .wider .ensures) at (i .inside .ensures) in
+    rw (holds kind (c .before .before .before .before .if1 .left), holds (c .before .before .before .species-within .ensures) (c .before .before .if2 .left), holds (c .before .suits-kind .ensures) (c .if3 .left))
 
 pub code-fault-spec : {M : Type 1} → statement M
 code-fault-spec =
@@ -42,6 +57,7 @@ code-fault-spec =
     (tie.spec
     element-copy-out-kind
     element-copy-out-code
+    wider-requires
     inside-requires
     returns
     species-within-requires

@@ -22,11 +22,14 @@ element-copy-out-span c = search needs
 limits-of-requires : tie.Need-limits-of-requires
 limits-of-requires c κs = search needs
 
-mul-inside : tie.Need-mul-inside
-mul-inside c = search needs
+mul-wider : tie.Need-mul-wider
+mul-wider c = search needs
 
-element-copy-out-inside : tie.Need-element-copy-out-inside
-element-copy-out-inside c = search needs
+element-copy-out-wider : tie.Need-element-copy-out-wider
+element-copy-out-wider c = search needs
+
+wider-requires : tie.Need-wider-requires
+wider-requires c κs = search needs
 
 inside-requires : tie.Need-inside-requires
 inside-requires c κs = search needs
@@ -34,9 +37,12 @@ inside-requires c κs = search needs
 -- the test of the range, said of the range itself
 ranged :
     (c : tie.After-inside) →
-    let m = c .before .before .before .before .before .before .args .t1 in
-    c .inside .result ≡ isIn (rangeOf (field m KIND) (field m CODE) (field m SPAN) (c .before .before .before .before .before .before .args .f)) (field m (c .before .before .before .before .before .before .args .f))
-ranged c = rw (c .before .before .limits-of .ensures .0, c .before .before .limits-of .ensures .1) at (c .inside .ensures)
+    let a = c .before .before .before .before .before .before .before .args in
+    let m = a .t1 in
+    c .inside .result ≡ isIn (rangeOf (field m KIND) (field m CODE) (field m SPAN) (a .f)) (field m (a .f))
+ranged c =
+    let l = c .before .before .before .limits-of .ensures in
+    rw (l .0, l .1, c .before .wider .ensures) at (c .inside .ensures)
 
 returns : tie.Need-returns
 unfolding within
@@ -57,8 +63,9 @@ is-within-spec =
     element-copy-out-code
     element-copy-out-span
     limits-of-requires
-    mul-inside
-    element-copy-out-inside
+    mul-wider
+    element-copy-out-wider
+    wider-requires
     inside-requires
     returns
     is-used-requires

@@ -8,15 +8,20 @@ use borrow.Author.Needs.{needs}
 use Rattle.files.proofs.fault.species_within.Statement.{statement}
 use Rattle.files.proofs.fault.species_within.Tie as tie
 
-element-copy-out-inside : tie.Need-element-copy-out-inside
-element-copy-out-inside c = search needs
+element-copy-out-wider : tie.Need-element-copy-out-wider
+element-copy-out-wider c = search needs
+
+wider-requires : tie.Need-wider-requires
+wider-requires c κs = search needs
 
 inside-requires : tie.Need-inside-requires
 inside-requires c κs = search needs
 
 returns : tie.Need-returns
 unfolding within rangeOf ranges
-returns c = rw (← (c .before .inside .ensures), c .if1 .taken, or-true)
+returns c =
+    let tested = rw (c .before .before .wider .ensures) at (c .before .inside .ensures) in
+    rw (← tested, c .if1 .taken, or-true)
 
 element-copy-out-is-used : tie.Need-element-copy-out-is-used
 element-copy-out-is-used c = search needs
@@ -29,13 +34,17 @@ is-used-requires c κs = search needs
 
 returns-2 : tie.Need-returns-2
 unfolding within rangeOf ranges
-returns-2 c = rw (← (c .before .before .before .before .inside .ensures), c .before .before .before .if1 .left, or-false) (ap not (c .is-used .ensures))
+returns-2 c =
+    let i = c .before .before .before .before in
+    let tested = rw (i .before .wider .ensures) at (i .inside .ensures) in
+    rw (← tested, c .before .before .before .if1 .left, or-false) (ap not (c .is-used .ensures))
 
 pub species-within-spec : {M : Type 1} → statement M
 species-within-spec =
     tie.close
     (tie.spec
-    element-copy-out-inside
+    element-copy-out-wider
+    wider-requires
     inside-requires
     returns
     element-copy-out-is-used

@@ -29,41 +29,47 @@ shared-slice-read-wide c = search needs
 wide-requires : tie.Need-wide-requires
 wide-requires c κs = search needs
 
+wider-requires : tie.Need-wider-requires
+wider-requires c κs = search needs
+
 inside-requires : tie.Need-inside-requires
 inside-requires c κs = search needs
 
 returns-3 : tie.Need-returns-3
 unfolding headerFault
 returns-3 c =
-    let b = c .before .before in
-    rw (le-leb _ _ (b .before .before .before .before .if1 .left), holds (b .before .before .before .is-marked .ensures) (b .before .before .if2 .left), ← b .wide .ensures .0, fails (c .before .inside .ensures) (c .if3 .taken))
+    let b = c .before .before .before in
+    let counted = rw (c .before .before .wider .ensures) at (c .before .inside .ensures) in
+    rw (le-leb _ _ (b .before .before .before .before .if1 .left), holds (b .before .before .before .is-marked .ensures) (b .before .before .if2 .left), ← b .wide .ensures .0, fails counted (c .if3 .taken))
 
 cast-records : tie.Need-cast-records
 cast-records c = search needs
 
 mul-if4 : tie.Need-mul-if4
 mul-if4 c =
-    let b = c .before .before in
+    let b = c .before .before .before in
     let most : b .wide .result ≤ 255 = omega (arith, b .wide .ensures .1) in
     omega (arith, mul-le-mul-left (b .before .before .before .before .before .before .args .size) most)
 
 add-if4 : tie.Need-add-if4
 add-if4 c =
-    let b = c .before .before in
+    let b = c .before .before .before in
     let most : b .wide .result ≤ 255 = omega (arith, b .wide .ensures .1) in
     omega (arith, mul-le-mul-left (b .before .before .before .before .before .before .args .size) most)
 
 returns-4 : tie.Need-returns-4
 unfolding headerFault
 returns-4 c =
-    let b = c .before .before .before in
-    rw (le-leb _ _ (b .before .before .before .before .if1 .left), holds (b .before .before .before .is-marked .ensures) (b .before .before .if2 .left), ← b .wide .ensures .0, holds (c .before .before .inside .ensures) (c .before .if3 .left), ne-eqb _ _ (c .if4 .taken))
+    let b = c .before .before .before .before in
+    let counted = rw (c .before .before .before .wider .ensures) at (c .before .before .inside .ensures) in
+    rw (le-leb _ _ (b .before .before .before .before .if1 .left), holds (b .before .before .before .is-marked .ensures) (b .before .before .if2 .left), ← b .wide .ensures .0, holds counted (c .before .if3 .left), ne-eqb _ _ (c .if4 .taken))
 
 returns-5 : tie.Need-returns-5
 unfolding headerFault
 returns-5 c =
-    let b = c .before .before .before in
-    rw (le-leb _ _ (b .before .before .before .before .if1 .left), holds (b .before .before .before .is-marked .ensures) (b .before .before .if2 .left), ← b .wide .ensures .0, holds (c .before .before .inside .ensures) (c .before .if3 .left), eq-eqb _ _ (c .if4 .left))
+    let b = c .before .before .before .before in
+    let counted = rw (c .before .before .before .wider .ensures) at (c .before .before .inside .ensures) in
+    rw (le-leb _ _ (b .before .before .before .before .if1 .left), holds (b .before .before .before .is-marked .ensures) (b .before .before .if2 .left), ← b .wide .ensures .0, holds counted (c .before .if3 .left), eq-eqb _ _ (c .if4 .left))
 
 pub header-fault-spec : {M : Type 1} → statement M
 header-fault-spec =
@@ -75,6 +81,7 @@ header-fault-spec =
     sub-wide
     shared-slice-read-wide
     wide-requires
+    wider-requires
     inside-requires
     returns-3
     cast-records

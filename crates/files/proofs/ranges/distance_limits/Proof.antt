@@ -12,11 +12,14 @@ returns c = rw (eq-eqb _ _ (c .if1 .taken)) (refl, refl)
 returns-2 : tie.Need-returns-2
 returns-2 c = rw (ne-eqb _ _ (c .before .if1 .left)) (refl, omega arith)
 
-sub-t4 : tie.Need-sub-t4
-sub-t4 c = search needs
+sub-wider : tie.Need-sub-wider
+sub-wider c = search needs
+
+wider-requires : tie.Need-wider-requires
+wider-requires c κs = search needs
 
 returns-3 : tie.Need-returns-3
-returns-3 c = rw (ne-eqb _ _ (c .before .if1 .left)) (refl, refl)
+returns-3 c = rw (ne-eqb _ _ (c .before .before .if1 .left)) (refl, c .wider .ensures)
 
 pub distance-limits-spec : {M : Type 1} → statement M
-distance-limits-spec = tie.close (tie.spec returns returns-2 sub-t4 returns-3)
+distance-limits-spec = tie.close (tie.spec returns returns-2 sub-wider wider-requires returns-3)

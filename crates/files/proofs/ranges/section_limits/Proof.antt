@@ -25,14 +25,14 @@ add-place c = search needs
 mul-t7 : tie.Need-mul-t7
 mul-t7 c = search needs
 
-array-read-t6 : tie.Need-array-read-t6
-array-read-t6 c = search needs
+array-read-t11 : tie.Need-array-read-t11
+array-read-t11 c = search needs
 
-mul-t12 : tie.Need-mul-t12
-mul-t12 c = search needs
+mul-t13 : tie.Need-mul-t13
+mul-t13 c = search needs
 
-array-read-t15 : tie.Need-array-read-t15
-array-read-t15 c = search needs
+array-read-t16 : tie.Need-array-read-t16
+array-read-t16 c = search needs
 
 returns-3 : tie.Need-returns-3
 unfolding sectionRange sectionRanges
@@ -52,7 +52,7 @@ section-limits-spec =
     mul-place
     add-place
     mul-t7
-    array-read-t6
-    mul-t12
-    array-read-t15
+    array-read-t11
+    mul-t13
+    array-read-t16
     returns-3)

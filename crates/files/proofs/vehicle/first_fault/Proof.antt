@@ -35,8 +35,8 @@ add-place c = omega arith
 loop-holds : tie.Need-loop-holds Inv-loop μ-loop Inv-axles μ-axles
 loop-holds c = (omega arith, c .before .axles .inv .1, refl)
 
-is-within-requires : tie.Need-is-within-requires Inv-loop μ-loop Inv-axles μ-axles
-is-within-requires c κs = omega arith
+field-within-requires : tie.Need-field-within-requires Inv-loop μ-loop Inv-axles μ-axles
+field-within-requires c κs = omega arith
 
 add-f : tie.Need-add-f Inv-loop μ-loop Inv-axles μ-axles
 add-f c = omega arith
@@ -47,7 +47,8 @@ loop-less c = omega arith
 loop-again : tie.Need-loop-again Inv-loop μ-loop Inv-axles μ-axles
 loop-again c =
     let l = c .before .before .before in
-    (omega arith, l .loop .inv .1, rw (add-one, l .loop .inv .2) (holds (c .before .is-within .ensures) (c .if1 .left)))
+    let good = holds (c .before .field-within .ensures) (c .if1 .left) in
+    (omega arith, l .loop .inv .1, rw (add-one, l .loop .inv .2, good))
 
 add-i : tie.Need-add-i Inv-loop μ-loop Inv-axles μ-axles
 add-i c = omega arith
@@ -76,8 +77,8 @@ returns-2 c =
     let l = c .before .before .before in
     let s = l .before .before in
     let b = s .before .before .args .bytes .now in
-    let outside = all-fails (fieldWithin b (s .axles .i)) AXLE-FIELDS (l .loop .f) (omega arith) (fails (c .before .is-within .ensures) (c .if1 .taken)) in
-    let at = ap (λ (t : Bool). 7 unless t) outside in
+    let bad = fails (c .before .field-within .ensures) (c .if1 .taken) in
+    let at = ap (λ (b : Bool). 7 unless b) (all-fails (fieldWithin b (s .axles .i)) AXLE-FIELDS (l .loop .f) (omega arith) bad) in
     sym (fault-at (axleFault b) 1 (s .axles .i) (s .before .before .args .axles) 7 (omega arith) (s .axles .inv .2) at (omega arith))
 
 pub first-fault-spec : {M : Type 1} → statement M
@@ -91,7 +92,7 @@ first-fault-spec =
     axles-holds
     add-place
     loop-holds
-    is-within-requires
+    field-within-requires
     add-f
     loop-less
     loop-again

@@ -1,22 +1,19 @@
--- `vehicle_of` meets its contract. The invariant: the rows hold the weights and distances of the first i axles, and 0 after them.
-use Prim.Native.Nat.{_-_, _≤_}
-use mathlib.Core.Path.{_≡_, refl, ap}
+-- `vehicle_of` meets its contract. The invariant: the first i weights and distances are the file's, and 0 stands after them.
+use Prim.Native.Nat.{_-_, _≤_, _<_}
+use mathlib.Core.Path.{_≡_, refl}
 use mathlib.Core.List.{_++_}
 use native.Mathlib.Omega.{arith}
 use lib.ListN.{replicate}
 use Rattle.section.specs.Units.{centimetres, kgf}
 use Rattle.member.specs.Fields.{MOST-AXLES}
 use Rattle.files.specs.Words.{each}
-use Rattle.files.specs.VehicleFile.{axlesOf, trackOf, weightAt, distanceAt}
+use Rattle.files.specs.VehicleFile.{axlesOf, weightAt, distanceAt}
 use Rattle.files.proofs.Each.{store-each}
 use Rattle.files.proofs.vehicle.vehicle_of.Statement.{statement}
 use Rattle.files.proofs.vehicle.vehicle_of.Tie as tie
 
 abbrev Inv-loop : tie.InvT-loop
-Inv-loop bytes axles class track weights₀ distances₀ i₀ weights distances i =
-    (i ≤ axles) ×
-    (weights ≡ each (λ k. kgf (weightAt bytes k)) i ++ replicate (MOST-AXLES - i) (kgf 0)) ×
-    (distances ≡ each (λ k. centimetres (distanceAt bytes k)) i ++ replicate (MOST-AXLES - i) (centimetres 0))
+Inv-loop bytes axles class track weights₀ distances₀ i₀ weights distances i = (i ≤ axles) × (weights ≡ each (λ k. kgf (weightAt bytes k)) i ++ replicate (MOST-AXLES - i) (kgf 0)) × (distances ≡ each (λ k. centimetres (distanceAt bytes k)) i ++ replicate (MOST-AXLES - i) (centimetres 0))
 
 abbrev μ-loop : tie.MeasureT-loop
 μ-loop bytes axles class track weights₀ distances₀ i₀ weights distances i = axles - i
@@ -24,23 +21,35 @@ abbrev μ-loop : tie.MeasureT-loop
 shared-slice-read-class : tie.Need-shared-slice-read-class Inv-loop μ-loop
 shared-slice-read-class c = omega arith
 
-track-at-requires : tie.Need-track-at-requires Inv-loop μ-loop
-track-at-requires c κs = omega arith
+word-at-requires : tie.Need-word-at-requires Inv-loop μ-loop
+word-at-requires c κs = omega arith
+
+wider-requires : tie.Need-wider-requires Inv-loop μ-loop
+wider-requires c κs = tt
+
+widest-requires : tie.Need-widest-requires Inv-loop μ-loop
+widest-requires c κs = tt
 
 loop-holds : tie.Need-loop-holds Inv-loop μ-loop
 loop-holds c = (omega arith, refl, refl)
 
-weight-at-requires : tie.Need-weight-at-requires Inv-loop μ-loop
-weight-at-requires c κs = omega arith
+axle-field-requires : tie.Need-axle-field-requires Inv-loop μ-loop
+axle-field-requires c κs = (omega arith, omega arith)
+
+widest-requires-2 : tie.Need-widest-requires-2 Inv-loop μ-loop
+widest-requires-2 c κs = tt
+
+axle-field-requires-2 : tie.Need-axle-field-requires-2 Inv-loop μ-loop
+axle-field-requires-2 c κs = (omega arith, omega arith)
+
+widest-requires-3 : tie.Need-widest-requires-3 Inv-loop μ-loop
+widest-requires-3 c κs = tt
 
 mul-weights : tie.Need-mul-weights Inv-loop μ-loop
 mul-weights c = omega arith
 
 array-set-from-weights : tie.Need-array-set-from-weights Inv-loop μ-loop
 array-set-from-weights c = omega arith
-
-distance-at-requires : tie.Need-distance-at-requires Inv-loop μ-loop
-distance-at-requires c κs = omega arith
 
 mul-distances : tie.Need-mul-distances Inv-loop μ-loop
 mul-distances c = omega arith
@@ -56,23 +65,21 @@ loop-less c = omega arith
 
 loop-again : tie.Need-loop-again Inv-loop μ-loop
 loop-again c =
-    let l = c .before .before .before in
-    let b = l .before .before .before .before .args .bytes .now in
-    let i = l .loop .i in
-    let w : c .before .weight-at .result ≡ kgf (weightAt b i) = ap kgf (c .before .weight-at .ensures) in
-    let d : c .distance-at .result ≡ centimetres (distanceAt b i) = ap centimetres (c .distance-at .ensures) in (
+    let l = c .before .before .before .before .before in
+    let b = l .before .before .before .before .before .before .args .bytes .now in
+    let weight = c .before .before in
+    let below : l .loop .i < MOST-AXLES = omega arith in (
       omega arith,
-      rw (l .loop .inv .1, w) (store-each (λ k. kgf (weightAt b k)) MOST-AXLES i (kgf 0) (omega arith)),
-      rw (l .loop .inv .2, d) (store-each (λ k. centimetres (distanceAt b k)) MOST-AXLES i (centimetres 0) (omega arith)),
+      rw (l .loop .inv .1, weight .widest2 .ensures, weight .before .axle-field .ensures) (store-each (λ k. kgf (weightAt b k)) MOST-AXLES (l .loop .i) (kgf 0) below),
+      rw (l .loop .inv .2, c .widest3 .ensures, c .before .axle-field2 .ensures) (store-each (λ k. centimetres (distanceAt b k)) MOST-AXLES (l .loop .i) (centimetres 0) below),
     )
 
 returns : tie.Need-returns Inv-loop μ-loop
 returns c =
     let l = c .before in
-    let start = l .before .before .before .before in
-    let ended : l .loop .i ≡ axlesOf (start .args .bytes .now) = omega (arith, start .pre .0) in
-    let track : l .before .track-at .result ≡ centimetres (trackOf (start .args .bytes .now)) = ap centimetres (l .before .track-at .ensures) in
-    rw (l .loop .inv .1, l .loop .inv .2, track, ended, start .pre .0)
+    let t = l .before in
+    let e : l .loop .i ≡ axlesOf (t .before .before .before .before .before .args .bytes .now) = omega (arith, t .before .before .before .before .before .pre .0) in
+    rw (t .widest .ensures, t .before .wider .ensures, t .before .before .word-at .ensures, rw e at (l .loop .inv .1), rw e at (l .loop .inv .2), t .before .before .before .before .before .pre .0)
 
 pub vehicle-of-spec : {M : Type 1} → statement M
 vehicle-of-spec =
@@ -81,12 +88,16 @@ vehicle-of-spec =
     Inv-loop
     μ-loop
     shared-slice-read-class
-    track-at-requires
+    word-at-requires
+    wider-requires
+    widest-requires
     loop-holds
-    weight-at-requires
+    axle-field-requires
+    widest-requires-2
+    axle-field-requires-2
+    widest-requires-3
     mul-weights
     array-set-from-weights
-    distance-at-requires
     mul-distances
     array-set-from-distances
     add-i

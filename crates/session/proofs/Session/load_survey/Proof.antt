@@ -1,7 +1,7 @@
 -- `Session::load_survey` meets its contract: what was read decides, and only a file that was taken is stored.
 -- Assumes nothing.
 use denote.Ref.{now}
-use Rattle.session.proofs.State.{survey-stored, survey-kept, sound-survey}
+use Rattle.session.proofs.State.{survey-stored, survey-kept, valid-survey}
 use borrow.Author.Needs.{needs}
 use Rattle.session.proofs.Session.load_survey.Statement.{statement}
 use Rattle.session.proofs.Session.load_survey.Tie as tie
@@ -20,7 +20,7 @@ returns c =
     let r = c .before .before .before .before .read-survey in
     let t = c .before .before .enum-told .given .1 in
     let a = c .before .before .before .before .before .before .args in
-    (survey-stored (a .self) (now (a .bytes)) (r .result) (r .ensures) t, rw (r .ensures) (sound-survey (a .self) (now (a .bytes)) (c .before .before .before .before .before .before .pre) (rw (r .ensures) at t)))
+    (survey-stored (a .self) (now (a .bytes)) (r .result) (r .ensures) t, rw (r .ensures) (valid-survey (a .self) (now (a .bytes)) (c .before .before .before .before .before .before .pre) (rw (r .ensures) at t)))
 
 returns-2 : tie.Need-returns-2
 returns-2 c =

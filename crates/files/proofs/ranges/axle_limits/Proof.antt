@@ -1,0 +1,21 @@
+-- `axle_limits` meets its contract: its tests are those of the range.
+use mathlib.Core.Path.{refl}
+use borrow.Author.Tests.{eq-eqb, ne-eqb}
+use Rattle.files.specs.VehicleFile.{axleRange}
+use Rattle.files.proofs.ranges.axle_limits.Statement.{statement}
+use Rattle.files.proofs.ranges.axle_limits.Tie as tie
+
+returns : tie.Need-returns
+unfolding axleRange
+returns c = rw (eq-eqb _ _ (c .if1 .taken)) (refl, refl)
+
+returns-2 : tie.Need-returns-2
+unfolding axleRange
+returns-2 c = rw (ne-eqb _ _ (c .before .if1 .left), eq-eqb _ _ (c .if2 .taken)) (refl, refl)
+
+returns-3 : tie.Need-returns-3
+unfolding axleRange
+returns-3 c = rw (ne-eqb _ _ (c .before .if1 .left), ne-eqb _ _ (c .if2 .left)) (refl, refl)
+
+pub axle-limits-spec : {M : Type 1} → statement M
+axle-limits-spec = tie.close (tie.spec returns returns-2 returns-3)
