@@ -1,6 +1,6 @@
-//! Has the proved library and the program `bridge` made by `rt`, and links the library.
+//! Has the proved libraries and the program `bridge` made by `rt`, and links the libraries.
 //!
-//! TBR_LIB_DIR names the folder of a library made before, TBR_BRIDGE a program made before; what
+//! TBR_LIB_DIR names the folder of libraries made before, TBR_BRIDGE a program made before; what
 //! they name is then taken as it is. There is no other way to a judgement: what is missing is an
 //! error.
 
@@ -8,7 +8,8 @@ use std::env;
 use std::path::{Path, PathBuf};
 use std::process::{exit, Command};
 
-const LIBRARY: &str = "libjudgement.a";
+/// The crates whose exported functions are linked.
+const EXPORTING: [&str; 2] = ["judgement", "exports"];
 
 /// Runs `rt` in the repository's root.
 fn rt(root: &Path, command: &str, name: &str) -> Result<(), String> {
@@ -19,13 +20,28 @@ fn rt(root: &Path, command: &str, name: &str) -> Result<(), String> {
     }
 }
 
-/// The library made before, or made now.
-fn library(root: &Path) -> Result<PathBuf, String> {
+/// The folder of the libraries made before, or made now.
+fn libraries(root: &Path) -> Result<PathBuf, String> {
     if let Some(folder) = env::var_os("TBR_LIB_DIR") {
-        return Ok(PathBuf::from(folder).join(LIBRARY));
+        return Ok(PathBuf::from(folder));
     }
-    rt(root, "staticlib", "judgement")?;
-    Ok(root.join("target/staticlib").join(LIBRARY))
+    for name in EXPORTING {
+        rt(root, "staticlib", name)?;
+    }
+    Ok(root.join("target/staticlib"))
+}
+
+/// Links a copy, so that the build does not lose its library when the root's target/ is cleared.
+fn link(name: &str, libraries: &Path, out: &Path) -> Result<(), String> {
+    let file = format!("lib{name}.a");
+    let library = libraries.join(&file);
+    if env::var_os("TBR_LIB_DIR").is_some() {
+        println!("cargo:rerun-if-changed={}", library.display());
+    }
+    std::fs::copy(&library, out.join(&file))
+        .map_err(|error| format!("no library at {}: {error}", library.display()))?;
+    println!("cargo:rustc-link-lib=static={name}");
+    Ok(())
 }
 
 fn build(root: &Path, out: &Path) -> Result<(), String> {
@@ -34,18 +50,14 @@ fn build(root: &Path, out: &Path) -> Result<(), String> {
     for source in ["crates", "crates.txt"] {
         println!("cargo:rerun-if-changed={}", root.join(source).display());
     }
-    let library = library(root)?;
-    if env::var_os("TBR_LIB_DIR").is_some() {
-        println!("cargo:rerun-if-changed={}", library.display());
-    }
     if env::var_os("TBR_BRIDGE").is_none() {
         rt(root, "check", "bridge")?;
     }
-    // A copy, so that the build does not lose its library when the root's target/ is cleared.
-    std::fs::copy(&library, out.join(LIBRARY))
-        .map_err(|error| format!("no library at {}: {error}", library.display()))?;
+    let libraries = libraries(root)?;
     println!("cargo:rustc-link-search=native={}", out.display());
-    println!("cargo:rustc-link-lib=static=judgement");
+    for name in EXPORTING {
+        link(name, &libraries, out)?;
+    }
     Ok(())
 }
 

@@ -2,23 +2,11 @@
 
 use crate::file;
 use crate::judge::Judgement;
+pub use crate::judge::MemberLoads;
 use std::fmt;
 use std::io::{ErrorKind, Write};
 use std::path::{Path, PathBuf};
 use std::process::{Command, Stdio};
-
-/// A member's line: both loads in kgf/m and the verdict.
-#[derive(Clone, Copy, Debug, PartialEq, Eq)]
-pub struct MemberLoads {
-    /// Its place, from 1.
-    pub place: u64,
-    /// What it may bear.
-    pub permitted: u64,
-    /// What the vehicle brings.
-    pub vehicle: u64,
-    /// Is the second at most the first?
-    pub passes: bool,
-}
 
 /// Why the members' loads are not to be had.
 #[derive(Debug)]
