@@ -1,58 +1,9 @@
 //! The command line `tbr`: what it prints and its exit status.
 
-mod common;
+mod cli;
 
-use common::have_bridge;
-use std::path::{Path, PathBuf};
-use std::process::{Command, Output};
-
-/// A folder of a test's own, removed at its end.
-struct Folder(PathBuf);
-
-impl Folder {
-    fn new(name: &str) -> Folder {
-        let path = Path::new(env!("CARGO_TARGET_TMPDIR")).join(name);
-        std::fs::create_dir_all(&path).unwrap();
-        Folder(path)
-    }
-
-    fn path(&self, name: &str) -> String {
-        self.0.join(name).to_str().unwrap().to_string()
-    }
-
-    fn file(&self, name: &str, bytes: &[u8]) -> String {
-        std::fs::write(self.path(name), bytes).unwrap();
-        self.path(name)
-    }
-}
-
-impl Drop for Folder {
-    fn drop(&mut self) {
-        let _ = std::fs::remove_dir_all(&self.0);
-    }
-}
-
-fn samples() -> PathBuf {
-    Path::new(env!("CARGO_MANIFEST_DIR")).join("../samples")
-}
-
-fn sample(name: &str) -> Vec<u8> {
-    std::fs::read(samples().join(name)).unwrap()
-}
-
-fn tbr(words: &[&str]) -> Command {
-    let mut command = Command::new(env!("CARGO_BIN_EXE_tbr"));
-    command.args(words).current_dir(samples());
-    command
-}
-
-/// Exit status, standard output, standard error.
-fn run(words: &[&str]) -> (i32, String, String) {
-    have_bridge();
-    let Output { status, stdout, stderr } = tbr(words).output().unwrap();
-    let text = |bytes| String::from_utf8(bytes).unwrap();
-    (status.code().unwrap(), text(stdout), text(stderr))
-}
+use cli::{run, sample, text, Folder};
+use std::path::Path;
 
 #[test]
 fn a_bridge_that_passes() {
@@ -75,7 +26,7 @@ fn a_bridge_that_is_refused() {
     assert!(
         table.contains("    1  stringer                   1720           2780     162 %  refuse")
     );
-    assert!(table.ends_with("verdict    refuse\n"), "{table}");
+    assert!(table.ends_with("\nverdict    refuse: member 1\n"), "{table}");
 }
 
 #[test]
@@ -92,8 +43,7 @@ fn all_kinds_by_name() {
 #[test]
 fn a_member_that_bears_nothing_has_no_share() {
     let folder = Folder::new("nothing");
-    let text = String::from_utf8(sample("case-a.txt")).unwrap();
-    let rotten = folder.file("rotten.txt", text.replace("rot 0", "rot 8").as_bytes());
+    let rotten = folder.file("rotten.txt", text("case-a.txt").replace("rot 0", "rot 8"));
     let survey = folder.path("rotten.tbr");
     assert_eq!(run(&["make", &rotten, &survey]).0, 0);
     let (status, table, _) = run(&["judge", &survey, "case-l.tbv"]);
@@ -174,25 +124,58 @@ fn a_wrong_text_form_makes_no_file() {
 }
 
 #[test]
-fn help_and_wrong_use() {
+fn help_and_version() {
     let (status, help, _) = run(&["--help"]);
-    assert!(status == 0 && help.contains("tbr judge SURVEY VEHICLE"));
-    for words in [&[][..], &["judge"], &["judge", "case-a.tbr"], &["rate", "x"], &["make", "x"]] {
-        let (status, out, error) = run(words);
-        assert_eq!((status, out.as_str()), (3, ""), "{words:?}");
-        assert!(error.contains("tbr judge SURVEY VEHICLE"), "{words:?}: {error}");
+    assert!(status == 0 && help.contains("tbr judge SURVEY VEHICLE.."), "{help}");
+    for command in ["judge", "show", "make"] {
+        let (status, page, error) = run(&[command, "--help"]);
+        assert_eq!((status, error.as_str()), (0, ""), "{command}");
+        assert!(page.starts_with(&format!("tbr {command} ")), "{page}");
+        assert_eq!(run(&[command, "no-such-file", "-h"]).1, page);
+        assert!(help.contains(&format!("tbr {command} ")), "{help}");
     }
-    let (status, _, error) = run(&["judge", "no-such.tbr", "lorry.tbv"]);
-    assert!(status == 3 && error.contains("cannot read no-such.tbr"), "{error}");
+    let version = format!("tbr {}\n", env!("CARGO_PKG_VERSION"));
+    assert_eq!(run(&["--version"]), (0, version, String::new()));
 }
 
-/// The members' lines come from the program and from nowhere else.
+/// One line, and it says where help is.
 #[test]
-fn without_the_program_there_is_no_table() {
-    let mut command = tbr(&["judge", "case-a.tbr", "case-l.tbv"]);
-    let output = command.env("TBR_BRIDGE", "no-such-program").output().unwrap();
-    assert_eq!((output.status.code(), output.stdout.len()), (Some(3), 0));
-    let mut command = tbr(&["judge", "case-a.tbr", "case-l.tbv"]);
-    let output = command.env("TBR_BRIDGE", "/bin/cat").output().unwrap();
-    assert_eq!((output.status.code(), output.stdout.len()), (Some(3), 0));
+fn wrong_use() {
+    for (words, help) in [
+        (&[][..], "tbr --help"),
+        (&["rate", "x"], "tbr --help"),
+        (&["--version", "x"], "tbr --help"),
+        (&["no\nsuch"], "tbr --help"),
+        (&["judge"], "tbr judge --help"),
+        (&["judge", "case-a.tbr"], "tbr judge --help"),
+        (&["judge", "--fast", "case-a.tbr", "lorry.tbv"], "tbr judge --help"),
+        (&["judge", "--csv", "--json", "case-a.tbr", "lorry.tbv"], "tbr judge --help"),
+        (&["judge", "-", "-"], "tbr judge --help"),
+        (&["show"], "tbr show --help"),
+        (&["show", "case-a.tbr", "lorry.tbv"], "tbr show --help"),
+        (&["make", "case-a.txt"], "tbr make --help"),
+        (&["make", "--back"], "tbr make --help"),
+        (&["make", "case-a.txt", "case-l.txt", "x"], "tbr make --help"),
+    ] {
+        let (status, out, error) = run(words);
+        assert_eq!((status, out.as_str()), (3, ""), "{words:?}");
+        assert_eq!(error.lines().count(), 1, "{words:?}: {error}");
+        assert!(error.ends_with(&format!("; '{help}' says how\n")), "{words:?}: {error}");
+    }
+}
+
+#[test]
+fn files_that_cannot_be_read() {
+    for words in [&["judge", "no-such", "lorry.tbv"], &["judge", "case-a.tbr", "no-such"]] {
+        let (status, out, error) = run(words);
+        assert_eq!((status, out.as_str()), (3, ""));
+        assert!(error.starts_with("tbr: no-such: cannot be read: "), "{error}");
+    }
+    let (status, _, error) = run(&["show", "."]);
+    assert!(status == 3 && error.starts_with("tbr: .: cannot be read: "), "{error}");
+    let (status, _, error) = run(&["show", "--", "--help"]);
+    assert!(status == 3 && error.starts_with("tbr: --help: cannot be read: "), "{error}");
+    // Without an end: no more is read than any file can have.
+    let (status, _, error) = run(&["judge", "/dev/zero", "lorry.tbv"]);
+    assert!(status == 2 && error.contains("/dev/zero: longer than"), "{error}");
 }

@@ -85,7 +85,7 @@ fn slices_of_slices() {
 fn all_numbers_have_words_of_their_own() {
     for file in [Which::Survey, Which::Vehicle] {
         let meaning = |number, place| Refusal { file, number, place }.meaning();
-        let mut words: Vec<&str> = (1..=9).map(|number| meaning(number, 1)).collect();
+        let mut words: Vec<String> = (1..=9).map(|number| meaning(number, 1)).collect();
         words.sort_unstable();
         words.dedup();
         assert_eq!(words.len(), 9, "{words:?}");
