@@ -73,12 +73,139 @@ fn refused_files_are_explained() {
     assert!(error.contains("light.tbv: vehicle refused, number 7 at axle 1"), "{error}");
     assert!(error.contains("its numbers: weight 0, distance 0"), "{error}");
 
-    let (status, _, error) = run(&["judge", "lorry.tbv", "case-a.tbr"]);
-    assert_eq!(status, 2);
-    assert!(error.contains("lorry.tbv: survey refused, number 2"), "{error}");
     let empty = folder.file("empty", &[]);
     assert_eq!(run(&["show", &empty]).0, 2);
     assert_eq!(run(&["judge", &empty, &empty]).0, 2);
+}
+
+/// Refusals 7 and 8 name the field, its value and what it may be.
+#[test]
+fn the_field_at_fault_is_named() {
+    let folder = Folder::new("fields");
+    let mut survey = sample("case-a.tbr");
+    survey[6 + 2 * 2..][..2].copy_from_slice(&99_u16.to_le_bytes());
+    let short = folder.file("short.tbr", &survey);
+    for words in
+        [&["judge", &short, "lorry.tbv"][..], &["show", &short], &["make", "--back", &short]]
+    {
+        let (status, out, error) = run(words);
+        assert_eq!((status, out.as_str()), (2, ""));
+        let expected = "short.tbr: survey refused, number 7 at member 1: span (l): 99 is outside \
+                        100 to 5000 cm\n";
+        assert!(error.contains(expected), "{error}");
+    }
+    survey[6 + 2 * 4] = 7;
+    let (_, _, error) = run(&["show", &folder.file("unused.tbr", &survey)]);
+    let expected = "unused.tbr: survey refused, number 8 at member 1: x: 7 must be 0: the kind \
+                    'stringer' does not use it\n";
+    assert!(error.contains(expected), "{error}");
+}
+
+#[test]
+fn files_in_the_wrong_order_get_a_hint() {
+    let order = "the order is: tbr judge SURVEY VEHICLE..\n";
+    for (survey, vehicle, first) in [
+        ("lorry.tbv", "case-a.tbr", "lorry.tbv: survey refused, number 2: "),
+        ("lorry.txt", "case-a.txt", "lorry.txt: the text form of a vehicle, not of a survey\n"),
+    ] {
+        let (status, out, error) = run(&["judge", survey, vehicle]);
+        assert_eq!((status, out.as_str()), (2, ""));
+        assert!(error.starts_with(&format!("tbr: {first}")), "{error}");
+        assert!(error.ends_with(&format!("hint: {survey} is a vehicle; {order}")), "{error}");
+    }
+    for survey in ["forest-road.tbr", "forest-road.txt"] {
+        let (status, _, error) = run(&["judge", "case-a.tbr", survey]);
+        assert_eq!(status, 2);
+        assert!(error.ends_with(&format!("hint: {survey} is a survey; {order}")), "{error}");
+    }
+}
+
+#[test]
+fn a_text_form_for_a_file_and_the_reverse_get_a_hint() {
+    for words in [&["show", "case-a.txt"][..], &["make", "--back", "case-a.txt"]] {
+        let (status, out, error) = run(words);
+        assert_eq!((status, out.as_str()), (2, ""));
+        let expected = "tbr: case-a.txt: the text form of a survey, not a file\n\
+                        tbr: hint: 'tbr make case-a.txt FILE' makes the file of it\n";
+        assert_eq!(error, expected);
+    }
+    let folder = Folder::new("reverse");
+    let (status, _, error) = run(&["make", "lorry.tbv", &folder.path("new.tbv")]);
+    let expected = "tbr: lorry.tbv: a vehicle file, not a text form\n\
+                    tbr: hint: 'tbr make --back lorry.tbv TEXT' writes its text form\n";
+    assert_eq!((status, error.as_str()), (2, expected));
+    assert_eq!(folder.names(), [""; 0]);
+}
+
+#[test]
+fn judge_takes_text_forms() {
+    let files = run(&["judge", "forest-road.tbr", "lorry.tbv"]);
+    assert_eq!(files.0, 0);
+    for (survey, vehicle) in [
+        ("forest-road.txt", "lorry.tbv"),
+        ("forest-road.tbr", "lorry.txt"),
+        ("forest-road.txt", "lorry.txt"),
+    ] {
+        assert_eq!(run(&["judge", survey, vehicle]), files);
+    }
+    let folder = Folder::new("text-faults");
+    let form = text("case-a.txt").replace("span 500", "span 50").replace("tiers 1", "tiers 4");
+    let wrong = folder.file("wrong.txt", form);
+    let made = run(&["make", &wrong, &folder.path("wrong.tbr")]);
+    let expected = format!(
+        "tbr: {wrong}: line 3, span: 50 is outside 100 to 5000 cm\n\
+         tbr: {wrong}: line 3, tiers: 4 is outside 1 to 3\n"
+    );
+    assert_eq!(made, (2, String::new(), expected));
+    assert_eq!(run(&["judge", &wrong, "lorry.tbv"]), made);
+}
+
+/// A table for each vehicle, under its name; the verdict names the members that refuse.
+#[test]
+fn several_vehicles() {
+    let one = |vehicle| run(&["judge", "forest-road.tbr", vehicle]).1;
+    let (status, tables, error) = run(&["judge", "forest-road.tbr", "lorry.tbv", "case-l.txt"]);
+    let expected = format!("lorry.tbv\n{}\ncase-l.txt\n{}", one("lorry.tbv"), one("case-l.txt"));
+    assert_eq!((status, tables, error.as_str()), (0, expected, ""));
+
+    let folder = Folder::new("several");
+    let heavy = folder.file("heavy.txt", text("lorry.txt").replace("6950", "16950"));
+    let (status, table, _) = run(&["judge", "forest-road.tbr", &heavy]);
+    assert_eq!(status, 1);
+    let refusing: Vec<&str> = table.lines().filter(|line| line.ends_with("  refuse")).collect();
+    let places: Vec<&str> =
+        refusing.iter().map(|line| line.split_whitespace().next().unwrap()).collect();
+    let (last, others) = places.split_last().unwrap();
+    assert!(others.len() > 1, "{table}");
+    let verdict = format!("\nverdict    refuse: members {} and {last}\n", others.join(", "));
+    assert!(table.ends_with(&verdict), "{table}");
+}
+
+/// The worst counts, and every other vehicle is still judged.
+#[test]
+fn the_status_of_several_vehicles() {
+    let folder = Folder::new("worst");
+    let short = folder.file("short.tbv", &sample("lorry.tbv")[..16]);
+    let passing = run(&["judge", "case-a.tbr", "case-l.tbv"]).1;
+    for (vehicles, worst, tables) in [
+        (&["case-l.tbv", "case-l.txt"][..], 0, 2),
+        (&["case-l.tbv", "lorry.tbv"], 1, 2),
+        (&["lorry.tbv", "case-l.tbv"], 1, 2),
+        (&["lorry.tbv", &short, "case-l.tbv"], 2, 2),
+        (&[&short, "case-l.tbv"], 2, 1),
+        (&["no-such", &short, "lorry.tbv", "case-l.tbv"], 3, 2),
+    ] {
+        let (status, out, error) = run(&[&["judge", "case-a.tbr"], vehicles].concat());
+        assert_eq!((status, out.matches("verdict    ").count()), (worst, tables), "{vehicles:?}");
+        assert!(out.contains(&passing), "{out}");
+        assert_eq!(
+            error.contains("short.tbv: vehicle refused, number 1: "),
+            vehicles.contains(&&short[..])
+        );
+        assert_eq!(error.contains("no-such: cannot be read"), worst == 3, "{error}");
+    }
+    let (status, out, _) = run(&["judge", &short, "case-l.tbv", "lorry.tbv"]);
+    assert_eq!((status, out.as_str()), (2, ""), "without a survey nothing is judged");
 }
 
 #[test]
