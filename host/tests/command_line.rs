@@ -2,7 +2,7 @@
 
 mod cli;
 
-use cli::{run, sample, text, Folder};
+use cli::{answer, run, sample, tbr, text, Folder};
 use std::path::Path;
 
 #[test]
@@ -305,4 +305,11 @@ fn files_that_cannot_be_read() {
     // Without an end: no more is read than any file can have.
     let (status, _, error) = run(&["judge", "/dev/zero", "lorry.tbv"]);
     assert!(status == 2 && error.contains("/dev/zero: longer than"), "{error}");
+}
+
+/// All loads come from the library that is linked: no other program, path or setting is needed.
+#[test]
+fn judge_needs_nothing_of_its_environment() {
+    let usual = run(&["judge", "forest-road.tbr", "lorry.tbv"]);
+    assert_eq!(answer(tbr(&["judge", "forest-road.tbr", "lorry.tbv"]).env_clear()), usual);
 }

@@ -4,8 +4,8 @@
 mod check;
 
 use check::fit;
-use tbr::program::MemberLoads;
 use tbr::Judgement;
+use tbr::MemberLoads;
 
 /// Three members; the second governs, the third has as small a permitted load and refuses.
 fn right() -> (Judgement, Vec<MemberLoads>) {

@@ -1,7 +1,7 @@
 //! Do the answers fit together? What does not is never shown.
 
-use tbr::program::MemberLoads;
 use tbr::Judgement;
+use tbr::MemberLoads;
 
 /// Holds the judgement of a bridge to the loads of its members, of which there are `count`. Both
 /// are the proved code's, from two calls: a difference is a fault of the program, in words.

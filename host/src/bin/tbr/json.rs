@@ -3,7 +3,7 @@
 use crate::end::{Cause, Failure};
 use crate::judge::{verdict, Judged, Report, Row};
 use crate::value::Json;
-use tbr::program::MemberLoads;
+use tbr::MemberLoads;
 
 fn member(row: &Row) -> Json {
     let MemberLoads { place, permitted, vehicle, passes } = row.loads;

@@ -4,13 +4,12 @@
 use crate::arguments::Arguments;
 use crate::end::{End, Failure, Status};
 use crate::input::{read, shown, STANDARD};
-use crate::take::{either, internal, refused, Taken};
+use crate::take::{either, internal, Taken};
 use crate::{check, csv, json, table};
 use std::ffi::{OsStr, OsString};
 use tbr::file::Contents;
 use tbr::form::kind_of;
-use tbr::program::{member_loads, MemberLoads};
-use tbr::{Judgement, Which};
+use tbr::{Judgement, MemberLoads, Refusal, Which};
 
 /// A member: its kind's term and its loads.
 pub struct Row {
@@ -73,10 +72,10 @@ fn judged(survey: &Taken, name: &OsStr) -> Result<Judged, Failure> {
     let input = read(name)?;
     let wrong = |words: String| internal(&input.name, words);
     let vehicle = either(&input, Which::Vehicle)?;
-    let judgement = tbr::judge(&survey.bytes, &vehicle.bytes)
-        .map_err(|refusal| refused(&input.name, &vehicle.bytes, refusal))?;
-    let loads = member_loads(&survey.bytes, &vehicle.bytes, &judgement)
-        .map_err(|error| wrong(error.to_string()))?;
+    // Both files were taken before, each by itself.
+    let refused = |refusal: Refusal| wrong(refusal.to_string());
+    let judgement = tbr::judge(&survey.bytes, &vehicle.bytes).map_err(refused)?;
+    let loads = tbr::member_loads(&survey.bytes, &vehicle.bytes).map_err(refused)?;
     let kinds = kinds(survey).ok_or_else(|| wrong("a kind without a name".to_string()))?;
     check::fit(kinds.len(), &judgement, &loads).map_err(wrong)?;
     let rows = kinds.into_iter().zip(loads).map(|(kind, loads)| Row { kind, loads }).collect();

@@ -1,7 +1,7 @@
 //! The judgement as people read it: a table for each vehicle, and what was refused.
 
 use crate::judge::{verdict, Judged, Report, Row};
-use tbr::program::MemberLoads;
+use tbr::MemberLoads;
 
 fn line([place, member, permitted, vehicle, used, verdict]: [&str; 6]) -> String {
     format!("{place:>5}  {member:<14}  {permitted:>15}  {vehicle:>13}  {used:>8}  {verdict}\n")

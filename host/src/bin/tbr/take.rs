@@ -39,7 +39,7 @@ fn record(bytes: &[u8], refusal: &Refusal) -> Option<Vec<(&'static str, u16)>> {
 }
 
 /// The refusal of these bytes, with the fields at fault.
-pub fn refused(name: &str, bytes: &[u8], refusal: Refusal) -> Failure {
+fn refused(name: &str, bytes: &[u8], refusal: Refusal) -> Failure {
     let faults = form::explain(bytes, &refusal);
     let record = record(bytes, &refusal).unwrap_or_default();
     let cause = Cause::Refused { refusal, faults, record };
