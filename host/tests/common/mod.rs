@@ -2,7 +2,7 @@
 #![allow(dead_code, unused_imports)]
 
 use reference::{File, Judged, Rated, Refused};
-use std::path::Path;
+use std::path::{Path, PathBuf};
 use std::process::Command;
 use std::sync::OnceLock;
 use tbr::{Judgement, MemberLoads, Refusal, Which};
@@ -60,4 +60,25 @@ pub fn have_bridge() {
         let status = Command::new("rt").args(["check", "bridge"]).current_dir(root).status();
         assert!(status.expect("rt cannot be run").success(), "rt check bridge failed");
     });
+}
+
+/// A folder of its own for a test, removed with all that is in it.
+pub struct Folder(PathBuf);
+
+impl Folder {
+    pub fn new(name: &str) -> Self {
+        let path = std::env::temp_dir().join(format!("tbr-{name}-{}", std::process::id()));
+        std::fs::create_dir_all(&path).expect("a folder for the test");
+        Folder(path)
+    }
+
+    pub fn path(&self) -> &Path {
+        &self.0
+    }
+}
+
+impl Drop for Folder {
+    fn drop(&mut self) {
+        let _ = std::fs::remove_dir_all(&self.0);
+    }
 }
