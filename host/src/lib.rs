@@ -13,9 +13,10 @@
 //!
 //! Beside them: [`form`], the files as plain text and back.
 
+#![warn(missing_docs)]
+
 pub mod file;
 pub mod form;
-pub mod program;
 
 mod judge;
 mod refusal;

@@ -1,9 +1,9 @@
 //! `include/tbr.h` as C sees it: a small program is compiled against it, linked with the libraries
 //! and run on files, and gives what the Rust functions give.
 
-mod common;
+mod cli;
 
-use common::Folder;
+use cli::{sample, Folder};
 use std::path::{Path, PathBuf};
 use std::process::Command;
 
@@ -11,7 +11,7 @@ const HOST: &str = env!("CARGO_MANIFEST_DIR");
 
 /// The C program, or nothing where this machine has no C compiler.
 fn compiled(folder: &Folder) -> Option<PathBuf> {
-    let program = folder.path().join("loads");
+    let program = folder.folder().join("loads");
     let mut cc = Command::new("cc");
     cc.args(["-std=c99", "-Wall", "-Wextra", "-Wpedantic", "-Werror", "-I"])
         .arg(Path::new(HOST).join("include"))
@@ -50,7 +50,6 @@ fn expected(survey: &[u8], vehicle: &[u8], entries: usize) -> String {
 fn a_c_program_gets_the_same() {
     let folder = Folder::new("c");
     let Some(program) = compiled(&folder) else { return };
-    let sample = |name| std::fs::read(Path::new(HOST).join("../samples").join(name)).unwrap();
     let (survey, vehicle) = (sample("forest-road.tbr"), sample("lorry.tbv"));
     let fits = 2 * usize::from(survey[5]);
     let mut marked = vehicle.clone();
@@ -58,11 +57,7 @@ fn a_c_program_gets_the_same() {
     let files = [(&survey, &vehicle), (&vehicle, &vehicle), (&survey, &marked), (&survey, &survey)];
     for (survey, vehicle) in files {
         for entries in [0, fits - 1, fits, fits + 3] {
-            let paths = [("survey", survey), ("vehicle", vehicle)].map(|(name, bytes)| {
-                let path = folder.path().join(name);
-                std::fs::write(&path, bytes).unwrap();
-                path
-            });
+            let paths = [folder.file("survey", survey), folder.file("vehicle", vehicle)];
             let run = Command::new(&program).args(paths).arg(entries.to_string()).output().unwrap();
             assert!(run.status.success(), "{run:?}");
             let printed = String::from_utf8(run.stdout).unwrap();

@@ -1,10 +1,7 @@
-//! What the tests share: seeds, the comparison with the reference, and the program `bridge`.
+//! What the tests share: seeds, and the comparison with the reference.
 #![allow(dead_code, unused_imports)]
 
 use reference::{File, Judged, Rated, Refused};
-use std::path::{Path, PathBuf};
-use std::process::Command;
-use std::sync::OnceLock;
 use tbr::{Judgement, MemberLoads, Refusal, Which};
 
 /// The seed of a test run: TBR_SEED (decimal) where that is set.
@@ -48,37 +45,3 @@ pub fn library(survey: &[u8], vehicle: &[u8]) -> Result<Judged, Refused> {
 
 /// The reference's answer.
 pub use reference::judge as expected;
-
-/// The program is there, made by `rt check bridge` where it is missing.
-pub fn have_bridge() {
-    static MADE: OnceLock<()> = OnceLock::new();
-    MADE.get_or_init(|| {
-        if tbr::program::path().exists() {
-            return;
-        }
-        let root = Path::new(env!("CARGO_MANIFEST_DIR")).join("..");
-        let status = Command::new("rt").args(["check", "bridge"]).current_dir(root).status();
-        assert!(status.expect("rt cannot be run").success(), "rt check bridge failed");
-    });
-}
-
-/// A folder of its own for a test, removed with all that is in it.
-pub struct Folder(PathBuf);
-
-impl Folder {
-    pub fn new(name: &str) -> Self {
-        let path = std::env::temp_dir().join(format!("tbr-{name}-{}", std::process::id()));
-        std::fs::create_dir_all(&path).expect("a folder for the test");
-        Folder(path)
-    }
-
-    pub fn path(&self) -> &Path {
-        &self.0
-    }
-}
-
-impl Drop for Folder {
-    fn drop(&mut self) {
-        let _ = std::fs::remove_dir_all(&self.0);
-    }
-}
