@@ -1,8 +1,8 @@
 /*
  * Timber bridge rating after VSN 12-73: the proved functions, for C.
  *
- * Link libjudgement.a for tbr_judge and libexports.a for tbr_member_loads; they need no other
- * library.
+ * Link libjudgement.a for tbr_judge and libexports.a for tbr_member_loads; they need nothing but
+ * the C library (memcpy and memset).
  *
  * A slice is two arguments, a pointer and the number of elements that it points to. The pointer is
  * never NULL, also where the number is 0, and a pointer to uint64_t is aligned for one. The list
