@@ -4,6 +4,7 @@ mod cli;
 
 use cli::{answer, run, sample, tbr, text, Folder};
 use std::path::Path;
+use tbr::form::{Field, Value, AXLE, HEADING, KINDS, SECTIONS};
 
 #[test]
 fn a_bridge_that_passes() {
@@ -73,7 +74,7 @@ fn refused_files_are_explained() {
     assert!(error.contains("light.tbv: vehicle refused, number 7 at axle 1"), "{error}");
     assert!(error.contains("its numbers: weight 0, distance 0"), "{error}");
 
-    let empty = folder.file("empty", &[]);
+    let empty = folder.file("empty", []);
     assert_eq!(run(&["show", &empty]).0, 2);
     assert_eq!(run(&["judge", &empty, &empty]).0, 2);
 }
@@ -259,10 +260,31 @@ fn help_and_version() {
         assert_eq!((status, error.as_str()), (0, ""), "{command}");
         assert!(page.starts_with(&format!("tbr {command} ")), "{page}");
         assert_eq!(run(&[command, "no-such-file", "-h"]).1, page);
+        assert_eq!(run(&["help", command]).1, page);
         assert!(help.contains(&format!("tbr {command} ")), "{help}");
     }
     let version = format!("tbr {}\n", env!("CARGO_PKG_VERSION"));
     assert_eq!(run(&["--version"]), (0, version, String::new()));
+}
+
+/// The page on the text form has every kind, section, field, unit and word of the tables.
+#[test]
+fn the_page_on_the_text_form_is_whole() {
+    let page = run(&["make", "--help"]).1.split_whitespace().collect::<Vec<_>>().join(" ");
+    let has = |words: &str| assert!(page.contains(words), "{words}");
+    let field = |field: &Field| match field.value {
+        Value::Number(limits) => has(format!("{} N {}", field.name, limits.unit).trim_end()),
+        Value::Word(all) => all.iter().for_each(|(word, _)| has(word)),
+    };
+    for kind in &KINDS {
+        has(kind.name);
+        kind.fields.iter().for_each(field);
+    }
+    for section in &SECTIONS {
+        has(&format!("section {}, ", section.name));
+        section.fields.iter().for_each(field);
+    }
+    HEADING.iter().chain(&AXLE).for_each(field);
 }
 
 /// One line, and it says where help is.
@@ -271,7 +293,6 @@ fn wrong_use() {
     for (words, help) in [
         (&[][..], "tbr --help"),
         (&["rate", "x"], "tbr --help"),
-        (&["--version", "x"], "tbr --help"),
         (&["no\nsuch"], "tbr --help"),
         (&["judge"], "tbr judge --help"),
         (&["judge", "case-a.tbr"], "tbr judge --help"),

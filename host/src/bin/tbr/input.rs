@@ -8,8 +8,8 @@ use std::os::fd::AsFd;
 use std::os::unix::fs::MetadataExt;
 use std::path::Path;
 
-/// No file and no text form comes near this.
-const LONGEST: u64 = 16 << 20;
+/// No file and no text form comes near a mebibyte.
+const LONGEST: u64 = 1 << 20;
 
 /// The name that means standard input or standard output.
 pub const STANDARD: &str = "-";

@@ -72,14 +72,16 @@ fn run(words: &[OsString]) -> End {
     let Some((first, rest)) = words.split_first() else {
         return wrong_use("nothing to do", "tbr --help");
     };
-    if let Some(command) = COMMANDS.iter().find(|command| first == command.name) {
+    let named = |word: &OsString| COMMANDS.iter().find(|command| word == command.name);
+    if let Some(command) = named(first) {
         return run_command(command, rest);
     }
-    match (first.to_str(), rest) {
-        (Some("--help" | "-h" | "help"), []) => End::done(HELP),
-        (Some("--version" | "-V"), []) => {
-            End::done(concat!("tbr ", env!("CARGO_PKG_VERSION"), "\n"))
+    match first.to_str() {
+        Some("help") => {
+            End::done(rest.first().and_then(named).map_or(HELP, |command| command.help))
         }
+        Some("--help" | "-h") => End::done(HELP),
+        Some("--version" | "-V") => End::done(concat!("tbr ", env!("CARGO_PKG_VERSION"), "\n")),
         _ => wrong_use(&format!("there is no command {}", quoted(first)), "tbr --help"),
     }
 }
