@@ -159,6 +159,10 @@ fn judge_takes_text_forms() {
     );
     assert_eq!(made, (2, String::new(), expected));
     assert_eq!(run(&["judge", &wrong, "lorry.tbv"]), made);
+    let letter = folder.file("letter.txt", "Dear colleague\n");
+    let (status, _, error) = run(&["judge", &letter, "lorry.tbv"]);
+    assert_eq!(status, 2);
+    assert!(error.contains("letter.txt: line 1, heading: the first line must be"), "{error}");
 }
 
 /// A table for each vehicle, under its name; the verdict names the members that refuse.

@@ -165,11 +165,21 @@ fn json_and_csv_of_strange_names() {
             assert!(is_json(&printed), "{printed}");
         }
     }
-    let path = folder.folder().join("a\"b\\c\nd\te, f.tbr");
-    let (status, printed, _) =
-        run(&["judge".as_ref(), "--csv".as_ref(), path.as_os_str(), "case-l.tbv".as_ref()]);
-    assert_eq!(status, 0);
-    assert!(printed.contains("/a\"\"b\\c\nd\te, f.tbr\",case-l.tbv,pass,"), "{printed}");
+    for (name, quoted) in [
+        ("a\"b\\c\nd\te, f.tbr", "/a\"\"b\\c\nd\te, f.tbr\""),
+        ("a, b.tbr", "/a, b.tbr\""),
+        ("a\"b.tbr", "/a\"\"b.tbr\""),
+        ("a\nb.tbr", "/a\nb.tbr\""),
+        ("a\rb.tbr", "/a\rb.tbr\""),
+        ("a b;c.tbr", "/a b;c.tbr"),
+    ] {
+        let survey = folder.file(name, sample("case-a.tbr"));
+        let (status, printed, _) = run(&["judge", "--csv", &survey, "case-l.tbv"]);
+        assert_eq!(status, 0);
+        assert!(printed.ends_with(&format!("{quoted},case-l.tbv,pass,1720,1,stringer,,,,,\n")));
+        let opens_quoted = printed.strip_prefix(COLUMNS).unwrap().starts_with('"');
+        assert_eq!(opens_quoted, quoted.ends_with('"'), "{printed}");
+    }
 }
 
 const COLUMNS: &str =
