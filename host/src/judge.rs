@@ -1,10 +1,10 @@
-//! The one call of the proved library, made safe.
+//! The two calls of the proved library, made safe.
 
 use crate::refusal::{Refusal, Which};
 
-/// What the library gives back: numbers only.
+/// The numbers of a judgement: those of a refusal, or figure, governing place and verdict.
 #[repr(C)]
-struct Judged {
+struct Numbers {
     refusal: u64,
     place: u64,
     figure: u64,
@@ -12,14 +12,30 @@ struct Judged {
     passes: u64,
 }
 
+/// The same, with the number of members whose loads the list has.
+#[repr(C)]
+struct Loads {
+    judged: Numbers,
+    members: u64,
+}
+
+// Each slice is a pointer and a length.
 extern "C" {
-    /// Survey and vehicle, each a pointer and a length.
     fn tbr_judge(
         survey: *const u8,
         survey_length: usize,
         vehicle: *const u8,
         vehicle_length: usize,
-    ) -> Judged;
+    ) -> Numbers;
+
+    fn tbr_member_loads(
+        survey: *const u8,
+        survey_length: usize,
+        vehicle: *const u8,
+        vehicle_length: usize,
+        list: *mut u64,
+        list_length: usize,
+    ) -> Loads;
 }
 
 /// The judgement of a bridge under a vehicle.
@@ -33,23 +49,70 @@ pub struct Judgement {
     pub passes: bool,
 }
 
+/// A member's two loads, in kgf/m, and its verdict.
+#[derive(Clone, Copy, Debug, PartialEq, Eq)]
+pub struct MemberLoads {
+    /// Its place, from 1.
+    pub place: u64,
+    /// What it may bear.
+    pub permitted: u64,
+    /// What the vehicle brings.
+    pub vehicle: u64,
+    /// Is the second at most the first?
+    pub passes: bool,
+}
+
 /// A survey and a vehicle that are taken, to ask about the other file alone: a log stringer, and
 /// one axle of 1 kgf.
 const SOUND_SURVEY: &[u8; 38] = b"TBR\x01\x00\x01\x01\x00\x01\x00\xf4\x01\x8c\x00\x00\x00\x00\x00\
     \x64\x00\x01\x00\x1c\x00\x00\x00\x01\x00\x00\x00\x00\x00\x00\x00\x00\x00\x00\x00";
 const SOUND_VEHICLE: &[u8; 13] = b"TBV\x01\x00\x00\xbe\x00\x01\x01\x00\x00\x00";
 
-fn call(survey: &[u8], vehicle: &[u8]) -> Judged {
-    // SAFETY: both pointers are of live slices with their own lengths, not null even when empty;
-    // the function only reads them and keeps neither.
+/// Where a survey file has its count of members.
+const COUNT_AT: usize = 5;
+
+// What both calls rest on. A slice of Rattle is a pointer and a length in the C order of
+// arguments; Rust's own slices give the pair, with a pointer that is never null and is aligned,
+// even where the slice is empty, and a length that the memory has. The structs are #[repr(C)] on
+// both sides, with the same fields in the same order. The functions are proved to end without a
+// failure, so nothing unwinds through the boundary, and to take references that they cannot keep:
+// no pointer outlives its call.
+
+fn call_judge(survey: &[u8], vehicle: &[u8]) -> Numbers {
+    // SAFETY: the pointers and lengths are those of two live slices, which are only read; the
+    // declaration is that of `judgement::tbr_judge`.
     unsafe { tbr_judge(survey.as_ptr(), survey.len(), vehicle.as_ptr(), vehicle.len()) }
+}
+
+fn call_member_loads(survey: &[u8], vehicle: &[u8], list: &mut [u64]) -> Loads {
+    // SAFETY: as above, with the declaration of `exports::tbr_member_loads`; the list is lent
+    // alone, as it is borrowed mutably here, and the function writes inside it only.
+    unsafe {
+        tbr_member_loads(
+            survey.as_ptr(),
+            survey.len(),
+            vehicle.as_ptr(),
+            vehicle.len(),
+            list.as_mut_ptr(),
+            list.len(),
+        )
+    }
 }
 
 /// The survey's refusal comes before the vehicle's: with a sound vehicle only the survey's is left.
 fn refused_file(survey: &[u8]) -> Which {
-    match call(survey, SOUND_VEHICLE).refusal {
+    match call_judge(survey, SOUND_VEHICLE).refusal {
         0 => Which::Vehicle,
         _ => Which::Survey,
+    }
+}
+
+/// The judgement that the numbers say, of this survey file and some vehicle file.
+fn judgement(numbers: &Numbers, survey: &[u8]) -> Result<Judgement, Refusal> {
+    let &Numbers { refusal, place, figure, governing, passes } = numbers;
+    match refusal {
+        0 => Ok(Judgement { figure, governing, passes: passes == 1 }),
+        number => Err(Refusal { file: refused_file(survey), number, place }),
     }
 }
 
@@ -59,11 +122,24 @@ fn refused_file(survey: &[u8]) -> Which {
 /// The refusal of the first file that is not as the document has it, the survey's before the
 /// vehicle's. Any bytes of any length get an answer.
 pub fn judge(survey: &[u8], vehicle: &[u8]) -> Result<Judgement, Refusal> {
-    let Judged { refusal, place, figure, governing, passes } = call(survey, vehicle);
-    match refusal {
-        0 => Ok(Judgement { figure, governing, passes: passes == 1 }),
-        number => Err(Refusal { file: refused_file(survey), number, place }),
-    }
+    judgement(&call_judge(survey, vehicle), survey)
+}
+
+/// Permitted load and vehicle load of every member of a survey file, in the order of places.
+///
+/// # Errors
+/// As [`judge`].
+pub fn member_loads(survey: &[u8], vehicle: &[u8]) -> Result<Vec<MemberLoads>, Refusal> {
+    // Two entries a member, by the file's own count; a file too short to have one is refused.
+    let count = survey.get(COUNT_AT).copied().unwrap_or(0);
+    let mut list = vec![0; 2 * usize::from(count)];
+    let Loads { judged, members } = call_member_loads(survey, vehicle, &mut list);
+    judgement(&judged, survey)?;
+    let loads = (1..=members).zip(list.chunks_exact(2)).map(|(place, loads)| {
+        let (permitted, vehicle) = (loads[0], loads[1]);
+        MemberLoads { place, permitted, vehicle, passes: vehicle <= permitted }
+    });
+    Ok(loads.collect())
 }
 
 /// Is this a survey file that the library takes?

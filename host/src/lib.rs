@@ -1,8 +1,8 @@
 //! Timber bridge rating after VSN 12-73: a safe wrapper over the proved judgement.
 //!
 //! [`judge`] takes the bytes of a survey file and a vehicle file and gives the bridge's figure,
-//! the governing member and the verdict, or the refusal of a file. It is one call of the proved
-//! library; no number is worked out here.
+//! the governing member and the verdict, or the refusal of a file; [`member_loads`] gives the two
+//! loads of every member. Each is a call of the proved library; no load is worked out here.
 //!
 //! ```
 //! let survey = include_bytes!("../../samples/case-a.tbr");
@@ -11,15 +11,15 @@
 //! assert_eq!((judgement.figure, judgement.governing, judgement.passes), (1720, 1, true));
 //! ```
 //!
-//! Beside it: [`form`], the files as plain text and back, and [`program`], which has the members'
-//! loads from the proved program `bridge`.
+//! Beside them: [`form`], the files as plain text and back.
+
+#![warn(missing_docs)]
 
 pub mod file;
 pub mod form;
-pub mod program;
 
 mod judge;
 mod refusal;
 
-pub use judge::{check_survey, check_vehicle, judge, Judgement};
+pub use judge::{check_survey, check_vehicle, judge, member_loads, Judgement, MemberLoads};
 pub use refusal::{Refusal, Which};

@@ -1,5 +1,6 @@
 //! A refused file, and every refusal number in words.
 
+use crate::form::{Layout, ALL_SPECIES, KINDS};
 use std::fmt;
 
 /// Which of the two files.
@@ -21,7 +22,7 @@ impl fmt::Display for Which {
 }
 
 /// Why a file was not taken.
-#[derive(Clone, Copy, Debug, PartialEq, Eq)]
+#[derive(Clone, Copy, PartialEq, Eq)]
 pub struct Refusal {
     /// The file at fault.
     pub file: Which,
@@ -33,16 +34,30 @@ pub struct Refusal {
 }
 
 impl Refusal {
+    /// The file, the number and the record, without what the number means.
+    pub fn heading(&self) -> String {
+        let heading = format!("{} refused, number {}", self.file, self.number);
+        match self.place {
+            0 => heading,
+            place => format!("{heading} at {} {place}", self.file.layout().record),
+        }
+    }
+
     /// What the number means for this file, in words.
-    pub fn meaning(&self) -> &'static str {
+    pub fn meaning(&self) -> String {
+        let Layout { mark, version, record, most } = self.file.layout();
         match (self.number, self.file) {
             (1, _) => "its length is not what its count says, or it is too short to hold a count",
-            (2, Which::Survey) => "it does not begin with the letters TBR and version 1",
-            (2, Which::Vehicle) => "it does not begin with the letters TBV and version 1",
-            (3, Which::Survey) => "its count of members is not 1 to 64",
-            (3, Which::Vehicle) => "its count of axles is not 1 to 16",
-            (4, _) => "the kind is not 1 to 6",
-            (5, _) => "the species is not 1 to 8",
+            (2, _) => {
+                let mark = String::from_utf8_lossy(*mark);
+                return format!("it does not begin with the letters {mark} and version {version}");
+            }
+            (3, _) => return format!("its count of {record}s is not 1 to {most}"),
+            (4, _) => return format!("the kind is not 1 to {}", KINDS.len()),
+            (5, _) => {
+                let last = ALL_SPECIES.iter().map(|(_, number)| number).max().unwrap_or(&0);
+                return format!("the species is not 1 to {last}");
+            }
             (6, _) => "the section code does not suit the kind",
             (7, Which::Survey) => "a number is outside its range, or A is above B",
             (7, Which::Vehicle) if self.place == 0 => "the class or the track is outside its range",
@@ -55,18 +70,20 @@ impl Refusal {
             }
             _ => "a refusal number that has no words here",
         }
+        .to_string()
     }
 }
 
 impl fmt::Display for Refusal {
     fn fmt(&self, f: &mut fmt::Formatter) -> fmt::Result {
-        write!(f, "{} refused, number {}", self.file, self.number)?;
-        match (self.place, self.file) {
-            (0, _) => {}
-            (place, Which::Survey) => write!(f, " at member {place}")?,
-            (place, Which::Vehicle) => write!(f, " at axle {place}")?,
-        }
-        write!(f, ": {}", self.meaning())
+        write!(f, "{}: {}", self.heading(), self.meaning())
+    }
+}
+
+/// In words too: a `main` that returns a refusal prints it so.
+impl fmt::Debug for Refusal {
+    fn fmt(&self, f: &mut fmt::Formatter) -> fmt::Result {
+        fmt::Display::fmt(self, f)
     }
 }
 

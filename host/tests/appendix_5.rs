@@ -1,12 +1,8 @@
 //! Outside figures: the row of the K-700 tractor in appendix 5 of the source (VSN 12-73), printed
 //! equivalent loads in tf/m with the apex at mid-span.
 
-mod common;
-
-use common::have_bridge;
 use reference::generate::{survey_bytes, vehicle_bytes, VehicleWords};
 use reference::layout::Words;
-use tbr::program::member_loads;
 
 /// Span in cm, and the printed load in hundredths of tf/m.
 const ROW: [(u16, u64); 35] = [
@@ -75,12 +71,9 @@ fn the_reference_agrees_with_all_35_spans() {
 }
 
 #[test]
-fn the_program_agrees_with_all_35_spans() {
-    have_bridge();
+fn the_library_agrees_with_all_35_spans() {
     let survey = survey_bytes(&ROW.map(|(span, _)| stringer(span)));
-    let vehicle = vehicle_bytes(&k_700());
-    let judgement = tbr::judge(&survey, &vehicle).expect("a sound pair");
-    let members = member_loads(&survey, &vehicle, &judgement).expect("the members' lines");
+    let members = tbr::member_loads(&survey, &vehicle_bytes(&k_700())).expect("a sound pair");
     assert_eq!(members.len(), ROW.len());
     for (member, (span, hundredths)) in members.iter().zip(ROW) {
         near(member.vehicle, hundredths, span);

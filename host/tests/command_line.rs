@@ -1,58 +1,10 @@
 //! The command line `tbr`: what it prints and its exit status.
 
-mod common;
+mod cli;
 
-use common::have_bridge;
-use std::path::{Path, PathBuf};
-use std::process::{Command, Output};
-
-/// A folder of a test's own, removed at its end.
-struct Folder(PathBuf);
-
-impl Folder {
-    fn new(name: &str) -> Folder {
-        let path = Path::new(env!("CARGO_TARGET_TMPDIR")).join(name);
-        std::fs::create_dir_all(&path).unwrap();
-        Folder(path)
-    }
-
-    fn path(&self, name: &str) -> String {
-        self.0.join(name).to_str().unwrap().to_string()
-    }
-
-    fn file(&self, name: &str, bytes: &[u8]) -> String {
-        std::fs::write(self.path(name), bytes).unwrap();
-        self.path(name)
-    }
-}
-
-impl Drop for Folder {
-    fn drop(&mut self) {
-        let _ = std::fs::remove_dir_all(&self.0);
-    }
-}
-
-fn samples() -> PathBuf {
-    Path::new(env!("CARGO_MANIFEST_DIR")).join("../samples")
-}
-
-fn sample(name: &str) -> Vec<u8> {
-    std::fs::read(samples().join(name)).unwrap()
-}
-
-fn tbr(words: &[&str]) -> Command {
-    let mut command = Command::new(env!("CARGO_BIN_EXE_tbr"));
-    command.args(words).current_dir(samples());
-    command
-}
-
-/// Exit status, standard output, standard error.
-fn run(words: &[&str]) -> (i32, String, String) {
-    have_bridge();
-    let Output { status, stdout, stderr } = tbr(words).output().unwrap();
-    let text = |bytes| String::from_utf8(bytes).unwrap();
-    (status.code().unwrap(), text(stdout), text(stderr))
-}
+use cli::{answer, run, sample, tbr, text, Folder};
+use std::path::Path;
+use tbr::form::{Field, Value, AXLE, HEADING, KINDS, SECTIONS};
 
 #[test]
 fn a_bridge_that_passes() {
@@ -75,7 +27,7 @@ fn a_bridge_that_is_refused() {
     assert!(
         table.contains("    1  stringer                   1720           2780     162 %  refuse")
     );
-    assert!(table.ends_with("verdict    refuse\n"), "{table}");
+    assert!(table.ends_with("\nverdict    refuse: member 1\n"), "{table}");
 }
 
 #[test]
@@ -92,8 +44,7 @@ fn all_kinds_by_name() {
 #[test]
 fn a_member_that_bears_nothing_has_no_share() {
     let folder = Folder::new("nothing");
-    let text = String::from_utf8(sample("case-a.txt")).unwrap();
-    let rotten = folder.file("rotten.txt", text.replace("rot 0", "rot 8").as_bytes());
+    let rotten = folder.file("rotten.txt", text("case-a.txt").replace("rot 0", "rot 8"));
     let survey = folder.path("rotten.tbr");
     assert_eq!(run(&["make", &rotten, &survey]).0, 0);
     let (status, table, _) = run(&["judge", &survey, "case-l.tbv"]);
@@ -123,12 +74,143 @@ fn refused_files_are_explained() {
     assert!(error.contains("light.tbv: vehicle refused, number 7 at axle 1"), "{error}");
     assert!(error.contains("its numbers: weight 0, distance 0"), "{error}");
 
-    let (status, _, error) = run(&["judge", "lorry.tbv", "case-a.tbr"]);
-    assert_eq!(status, 2);
-    assert!(error.contains("lorry.tbv: survey refused, number 2"), "{error}");
-    let empty = folder.file("empty", &[]);
+    let empty = folder.file("empty", []);
     assert_eq!(run(&["show", &empty]).0, 2);
     assert_eq!(run(&["judge", &empty, &empty]).0, 2);
+}
+
+/// Refusals 7 and 8 name the field, its value and what it may be.
+#[test]
+fn the_field_at_fault_is_named() {
+    let folder = Folder::new("fields");
+    let mut survey = sample("case-a.tbr");
+    survey[6 + 2 * 2..][..2].copy_from_slice(&99_u16.to_le_bytes());
+    let short = folder.file("short.tbr", &survey);
+    for words in
+        [&["judge", &short, "lorry.tbv"][..], &["show", &short], &["make", "--back", &short]]
+    {
+        let (status, out, error) = run(words);
+        assert_eq!((status, out.as_str()), (2, ""));
+        let expected = "short.tbr: survey refused, number 7 at member 1: span (l): 99 is outside \
+                        100 to 5000 cm\n";
+        assert!(error.contains(expected), "{error}");
+    }
+    survey[6 + 2 * 4] = 7;
+    let (_, _, error) = run(&["show", &folder.file("unused.tbr", &survey)]);
+    let expected = "unused.tbr: survey refused, number 8 at member 1: x: 7 must be 0: the kind \
+                    'stringer' does not use it\n";
+    assert!(error.contains(expected), "{error}");
+}
+
+#[test]
+fn files_in_the_wrong_order_get_a_hint() {
+    let order = "the order is: tbr judge SURVEY VEHICLE..\n";
+    for (survey, vehicle, first) in [
+        ("lorry.tbv", "case-a.tbr", "lorry.tbv: survey refused, number 2: "),
+        ("lorry.txt", "case-a.txt", "lorry.txt: the text form of a vehicle, not of a survey\n"),
+    ] {
+        let (status, out, error) = run(&["judge", survey, vehicle]);
+        assert_eq!((status, out.as_str()), (2, ""));
+        assert!(error.starts_with(&format!("tbr: {first}")), "{error}");
+        assert!(error.ends_with(&format!("hint: {survey} is a vehicle; {order}")), "{error}");
+    }
+    for survey in ["forest-road.tbr", "forest-road.txt"] {
+        let (status, _, error) = run(&["judge", "case-a.tbr", survey]);
+        assert_eq!(status, 2);
+        assert!(error.ends_with(&format!("hint: {survey} is a survey; {order}")), "{error}");
+    }
+}
+
+#[test]
+fn a_text_form_for_a_file_and_the_reverse_get_a_hint() {
+    for words in [&["show", "case-a.txt"][..], &["make", "--back", "case-a.txt"]] {
+        let (status, out, error) = run(words);
+        assert_eq!((status, out.as_str()), (2, ""));
+        let expected = "tbr: case-a.txt: the text form of a survey, not a file\n\
+                        tbr: hint: 'tbr make case-a.txt FILE' makes the file of it\n";
+        assert_eq!(error, expected);
+    }
+    let folder = Folder::new("reverse");
+    let (status, _, error) = run(&["make", "lorry.tbv", &folder.path("new.tbv")]);
+    let expected = "tbr: lorry.tbv: a vehicle file, not a text form\n\
+                    tbr: hint: 'tbr make --back lorry.tbv TEXT' writes its text form\n";
+    assert_eq!((status, error.as_str()), (2, expected));
+    assert_eq!(folder.names(), [""; 0]);
+}
+
+#[test]
+fn judge_takes_text_forms() {
+    let files = run(&["judge", "forest-road.tbr", "lorry.tbv"]);
+    assert_eq!(files.0, 0);
+    for (survey, vehicle) in [
+        ("forest-road.txt", "lorry.tbv"),
+        ("forest-road.tbr", "lorry.txt"),
+        ("forest-road.txt", "lorry.txt"),
+    ] {
+        assert_eq!(run(&["judge", survey, vehicle]), files);
+    }
+    let folder = Folder::new("text-faults");
+    let form = text("case-a.txt").replace("span 500", "span 50").replace("tiers 1", "tiers 4");
+    let wrong = folder.file("wrong.txt", form);
+    let made = run(&["make", &wrong, &folder.path("wrong.tbr")]);
+    let expected = format!(
+        "tbr: {wrong}: line 3, span: 50 is outside 100 to 5000 cm\n\
+         tbr: {wrong}: line 3, tiers: 4 is outside 1 to 3\n"
+    );
+    assert_eq!(made, (2, String::new(), expected));
+    assert_eq!(run(&["judge", &wrong, "lorry.tbv"]), made);
+    let letter = folder.file("letter.txt", "Dear colleague\n");
+    let (status, _, error) = run(&["judge", &letter, "lorry.tbv"]);
+    assert_eq!(status, 2);
+    assert!(error.contains("letter.txt: line 1, heading: the first line must be"), "{error}");
+}
+
+/// A table for each vehicle, under its name; the verdict names the members that refuse.
+#[test]
+fn several_vehicles() {
+    let one = |vehicle| run(&["judge", "forest-road.tbr", vehicle]).1;
+    let (status, tables, error) = run(&["judge", "forest-road.tbr", "lorry.tbv", "case-l.txt"]);
+    let expected = format!("lorry.tbv\n{}\ncase-l.txt\n{}", one("lorry.tbv"), one("case-l.txt"));
+    assert_eq!((status, tables, error.as_str()), (0, expected, ""));
+
+    let folder = Folder::new("several");
+    let heavy = folder.file("heavy.txt", text("lorry.txt").replace("6950", "16950"));
+    let (status, table, _) = run(&["judge", "forest-road.tbr", &heavy]);
+    assert_eq!(status, 1);
+    let refusing: Vec<&str> = table.lines().filter(|line| line.ends_with("  refuse")).collect();
+    let places: Vec<&str> =
+        refusing.iter().map(|line| line.split_whitespace().next().unwrap()).collect();
+    let (last, others) = places.split_last().unwrap();
+    assert!(others.len() > 1, "{table}");
+    let verdict = format!("\nverdict    refuse: members {} and {last}\n", others.join(", "));
+    assert!(table.ends_with(&verdict), "{table}");
+}
+
+/// The worst counts, and every other vehicle is still judged.
+#[test]
+fn the_status_of_several_vehicles() {
+    let folder = Folder::new("worst");
+    let short = folder.file("short.tbv", &sample("lorry.tbv")[..16]);
+    let passing = run(&["judge", "case-a.tbr", "case-l.tbv"]).1;
+    for (vehicles, worst, tables) in [
+        (&["case-l.tbv", "case-l.txt"][..], 0, 2),
+        (&["case-l.tbv", "lorry.tbv"], 1, 2),
+        (&["lorry.tbv", "case-l.tbv"], 1, 2),
+        (&["lorry.tbv", &short, "case-l.tbv"], 2, 2),
+        (&[&short, "case-l.tbv"], 2, 1),
+        (&["no-such", &short, "lorry.tbv", "case-l.tbv"], 3, 2),
+    ] {
+        let (status, out, error) = run(&[&["judge", "case-a.tbr"], vehicles].concat());
+        assert_eq!((status, out.matches("verdict    ").count()), (worst, tables), "{vehicles:?}");
+        assert!(out.contains(&passing), "{out}");
+        assert_eq!(
+            error.contains("short.tbv: vehicle refused, number 1: "),
+            vehicles.contains(&&short[..])
+        );
+        assert_eq!(error.contains("no-such: cannot be read"), worst == 3, "{error}");
+    }
+    let (status, out, _) = run(&["judge", &short, "case-l.tbv", "lorry.tbv"]);
+    assert_eq!((status, out.as_str()), (2, ""), "without a survey nothing is judged");
 }
 
 #[test]
@@ -174,25 +256,85 @@ fn a_wrong_text_form_makes_no_file() {
 }
 
 #[test]
-fn help_and_wrong_use() {
+fn help_and_version() {
     let (status, help, _) = run(&["--help"]);
-    assert!(status == 0 && help.contains("tbr judge SURVEY VEHICLE"));
-    for words in [&[][..], &["judge"], &["judge", "case-a.tbr"], &["rate", "x"], &["make", "x"]] {
-        let (status, out, error) = run(words);
-        assert_eq!((status, out.as_str()), (3, ""), "{words:?}");
-        assert!(error.contains("tbr judge SURVEY VEHICLE"), "{words:?}: {error}");
+    assert!(status == 0 && help.contains("tbr judge SURVEY VEHICLE.."), "{help}");
+    for command in ["judge", "show", "make"] {
+        let (status, page, error) = run(&[command, "--help"]);
+        assert_eq!((status, error.as_str()), (0, ""), "{command}");
+        assert!(page.starts_with(&format!("tbr {command} ")), "{page}");
+        assert_eq!(run(&[command, "no-such-file", "-h"]).1, page);
+        assert_eq!(run(&["help", command]).1, page);
+        assert!(help.contains(&format!("tbr {command} ")), "{help}");
     }
-    let (status, _, error) = run(&["judge", "no-such.tbr", "lorry.tbv"]);
-    assert!(status == 3 && error.contains("cannot read no-such.tbr"), "{error}");
+    let version = format!("tbr {}\n", env!("CARGO_PKG_VERSION"));
+    assert_eq!(run(&["--version"]), (0, version, String::new()));
 }
 
-/// The members' lines come from the program and from nowhere else.
+/// The page on the text form has every kind, section, field, unit and word of the tables.
 #[test]
-fn without_the_program_there_is_no_table() {
-    let mut command = tbr(&["judge", "case-a.tbr", "case-l.tbv"]);
-    let output = command.env("TBR_BRIDGE", "no-such-program").output().unwrap();
-    assert_eq!((output.status.code(), output.stdout.len()), (Some(3), 0));
-    let mut command = tbr(&["judge", "case-a.tbr", "case-l.tbv"]);
-    let output = command.env("TBR_BRIDGE", "/bin/cat").output().unwrap();
-    assert_eq!((output.status.code(), output.stdout.len()), (Some(3), 0));
+fn the_page_on_the_text_form_is_whole() {
+    let page = run(&["make", "--help"]).1.split_whitespace().collect::<Vec<_>>().join(" ");
+    let has = |words: &str| assert!(page.contains(words), "{words}");
+    let field = |field: &Field| match field.value {
+        Value::Number(limits) => has(format!("{} N {}", field.name, limits.unit).trim_end()),
+        Value::Word(all) => all.iter().for_each(|(word, _)| has(word)),
+    };
+    for kind in &KINDS {
+        has(kind.name);
+        kind.fields.iter().for_each(field);
+    }
+    for section in &SECTIONS {
+        has(&format!("section {}, ", section.name));
+        section.fields.iter().for_each(field);
+    }
+    HEADING.iter().chain(&AXLE).for_each(field);
+}
+
+/// One line, and it says where help is.
+#[test]
+fn wrong_use() {
+    for (words, help) in [
+        (&[][..], "tbr --help"),
+        (&["rate", "x"], "tbr --help"),
+        (&["no\nsuch"], "tbr --help"),
+        (&["judge"], "tbr judge --help"),
+        (&["judge", "case-a.tbr"], "tbr judge --help"),
+        (&["judge", "--fast", "case-a.tbr", "lorry.tbv"], "tbr judge --help"),
+        (&["judge", "--csv", "--json", "case-a.tbr", "lorry.tbv"], "tbr judge --help"),
+        (&["judge", "-", "-"], "tbr judge --help"),
+        (&["show"], "tbr show --help"),
+        (&["show", "case-a.tbr", "lorry.tbv"], "tbr show --help"),
+        (&["make", "case-a.txt"], "tbr make --help"),
+        (&["make", "--back"], "tbr make --help"),
+        (&["make", "case-a.txt", "case-l.txt", "x"], "tbr make --help"),
+    ] {
+        let (status, out, error) = run(words);
+        assert_eq!((status, out.as_str()), (3, ""), "{words:?}");
+        assert_eq!(error.lines().count(), 1, "{words:?}: {error}");
+        assert!(error.ends_with(&format!("; '{help}' says how\n")), "{words:?}: {error}");
+    }
+}
+
+#[test]
+fn files_that_cannot_be_read() {
+    for words in [&["judge", "no-such", "lorry.tbv"], &["judge", "case-a.tbr", "no-such"]] {
+        let (status, out, error) = run(words);
+        assert_eq!((status, out.as_str()), (3, ""));
+        assert!(error.starts_with("tbr: no-such: cannot be read: "), "{error}");
+    }
+    let (status, _, error) = run(&["show", "."]);
+    assert!(status == 3 && error.starts_with("tbr: .: cannot be read: "), "{error}");
+    let (status, _, error) = run(&["show", "--", "--help"]);
+    assert!(status == 3 && error.starts_with("tbr: --help: cannot be read: "), "{error}");
+    // Without an end: no more is read than any file can have.
+    let (status, _, error) = run(&["judge", "/dev/zero", "lorry.tbv"]);
+    assert!(status == 2 && error.contains("/dev/zero: longer than"), "{error}");
+}
+
+/// All loads come from the library that is linked: no other program, path or setting is needed.
+#[test]
+fn judge_needs_nothing_of_its_environment() {
+    let usual = run(&["judge", "forest-road.tbr", "lorry.tbv"]);
+    assert_eq!(answer(tbr(&["judge", "forest-road.tbr", "lorry.tbv"]).env_clear()), usual);
 }

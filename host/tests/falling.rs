@@ -1,23 +1,42 @@
 //! Demand 3 by trial: with deeper rot, more lost area, more dead load, heavier axles, members and
-//! axles added, the figure never rises and a refused bridge never passes.
+//! axles added, no permitted load rises, no vehicle load falls, the figure does not rise, and what
+//! is refused, a member or the bridge, does not pass.
 
 mod common;
 
 use common::seed;
 use reference::generate::*;
 use reference::layout::Words;
-use tbr::Judgement;
+use tbr::{Judgement, MemberLoads};
 
 const PAIRS: u64 = 20_000;
 
-fn judged(members: &[Words], vehicle: &VehicleWords, seed: u64) -> Judgement {
-    let answer = tbr::judge(&survey_bytes(members), &vehicle_bytes(vehicle));
-    answer.unwrap_or_else(|refusal| panic!("TBR_SEED={seed}: {refusal}"))
+/// The judgement, and the members' loads.
+struct Bridge {
+    judgement: Judgement,
+    members: Vec<MemberLoads>,
 }
 
-fn never_rises(first: &Judgement, second: &Judgement, seed: u64) {
-    assert!(second.figure <= first.figure, "TBR_SEED={seed}: {first:?} then {second:?}");
-    assert!(first.passes || !second.passes, "TBR_SEED={seed}: {first:?} then {second:?}");
+fn judged(members: &[Words], vehicle: &VehicleWords, seed: u64) -> Bridge {
+    let (survey, vehicle) = (survey_bytes(members), vehicle_bytes(vehicle));
+    let judgement = tbr::judge(&survey, &vehicle);
+    match judgement.and_then(|judgement| Ok((judgement, tbr::member_loads(&survey, &vehicle)?))) {
+        Ok((judgement, members)) => Bridge { judgement, members },
+        Err(refusal) => panic!("TBR_SEED={seed}: {refusal}"),
+    }
+}
+
+/// The first bridge and its worse second, compared with its shared members.
+fn never_better(first: &Bridge, second: &Bridge, seed: u64) {
+    let (one, other) = (&first.judgement, &second.judgement);
+    assert!(other.figure <= one.figure, "TBR_SEED={seed}: {one:?} then {other:?}");
+    assert!(one.passes || !other.passes, "TBR_SEED={seed}: {one:?} then {other:?}");
+    assert!(first.members.len() <= second.members.len(), "TBR_SEED={seed}");
+    for (one, other) in first.members.iter().zip(&second.members) {
+        assert!(other.permitted <= one.permitted, "TBR_SEED={seed}: {one:?} then {other:?}");
+        assert!(other.vehicle >= one.vehicle, "TBR_SEED={seed}: {one:?} then {other:?}");
+        assert!(one.passes || !other.passes, "TBR_SEED={seed}: {one:?} then {other:?}");
+    }
 }
 
 #[test]
@@ -34,15 +53,9 @@ fn worse_files_never_rate_better() {
         let heavier = worse_vehicle(&mut random, &vehicle, 3);
         let first = judged(&members, &vehicle, seed);
         let second = judged(&worse, &heavier, seed);
-        never_rises(&first, &second, seed);
-        lower += u32::from(second.figure < first.figure);
-        turned += u32::from(first.passes && !second.passes);
-        // Each shared member is a bridge of its own: then the figure is its permitted load.
-        for (one, other) in members.iter().zip(&worse) {
-            let alone = judged(std::slice::from_ref(one), &vehicle, seed);
-            let worse_alone = judged(std::slice::from_ref(other), &heavier, seed);
-            never_rises(&alone, &worse_alone, seed);
-        }
+        never_better(&first, &second, seed);
+        lower += u32::from(second.judgement.figure < first.judgement.figure);
+        turned += u32::from(first.judgement.passes && !second.judgement.passes);
     }
     assert!(lower > 1000 && turned > 100, "{lower} figures fell, {turned} verdicts turned");
 }
@@ -58,6 +71,7 @@ fn worse_full_files_never_rate_better() {
         let worse = worse_survey(&mut random, &members, 0);
         let heavier = worse_vehicle(&mut random, &vehicle, 4);
         let first = judged(&members, &vehicle, seed);
-        never_rises(&first, &judged(&worse, &heavier, seed), seed);
+        let second = judged(&worse, &heavier, seed);
+        never_better(&first, &second, seed);
     }
 }

@@ -4,6 +4,8 @@ mod common;
 
 use common::{expected, library};
 use reference::generate::*;
+use tbr::file;
+use tbr::form::{explain, read};
 use tbr::{check_survey, check_vehicle, judge, Refusal, Which};
 
 const SURVEY: &[u8] = include_bytes!("../../samples/case-a.tbr");
@@ -85,7 +87,7 @@ fn slices_of_slices() {
 fn all_numbers_have_words_of_their_own() {
     for file in [Which::Survey, Which::Vehicle] {
         let meaning = |number, place| Refusal { file, number, place }.meaning();
-        let mut words: Vec<&str> = (1..=9).map(|number| meaning(number, 1)).collect();
+        let mut words: Vec<String> = (1..=9).map(|number| meaning(number, 1)).collect();
         words.sort_unstable();
         words.dedup();
         assert_eq!(words.len(), 9, "{words:?}");
@@ -116,4 +118,187 @@ fn nothing_is_kept_between_calls() {
             });
         }
     });
+}
+
+const FOREST_ROAD: &[u8] = include_bytes!("../../samples/forest-road.tbr");
+
+/// The fields that a refused survey's refusal is about, in words.
+fn survey_words(bytes: &[u8]) -> Vec<String> {
+    let refusal = check_survey(bytes).unwrap_err();
+    explain(bytes, &refusal).iter().map(|fault| fault.to_string()).collect()
+}
+
+fn vehicle_words(bytes: &[u8]) -> Vec<String> {
+    let refusal = check_vehicle(bytes).unwrap_err();
+    explain(bytes, &refusal).iter().map(|fault| fault.to_string()).collect()
+}
+
+/// The forest road's survey with a word of a member, from 1, replaced.
+fn with_word(place: usize, word: usize, value: u16) -> Vec<u8> {
+    let mut bytes = FOREST_ROAD.to_vec();
+    let at = 6 + 32 * (place - 1) + 2 * word;
+    bytes[at..at + 2].copy_from_slice(&value.to_le_bytes());
+    bytes
+}
+
+#[test]
+fn fields_of_a_survey_at_fault() {
+    let [sawn_stringer, log_beam, chord, dowels, keyed, plates] = [2, 3, 4, 5, 6, 7];
+    for (place, word, value, words) in [
+        (
+            1,
+            0,
+            9,
+            "kind: 9 is not one of: 1 stringer, 2 cross beam, 3 chord, 4 dowelled joint, \
+                   5 keyed joint, 6 steel plates",
+        ),
+        (
+            1,
+            1,
+            0,
+            "species: 0 is not one of: 1 pine, 2 spruce, 3 larch, 4 cedar, 5 fir, 6 oak, \
+                   7 ash, 7 maple, 7 hornbeam, 8 beech",
+        ),
+        (1, 7, 4, "section: 4 is not one of: 1 log, 2 sawn"),
+        (1, 2, 99, "span (l): 99 is outside 100 to 5000 cm"),
+        (1, 8, 40, "diameter (s1): 40 is outside 13 to 39 cm"),
+        (1, 4, 7, "x: 7 must be 0: the kind 'stringer' does not use it"),
+        (1, 11, 3, "s4: 3 must be 0: the section 'log' does not use it"),
+        (sawn_stringer, 13, 30, "lost area (s6): 30 must be 0: a beam in bending has no lost area"),
+        (sawn_stringer, 14, 1, "A: 1 must be 0: the kind 'stringer' does not use it"),
+        (log_beam, 3, 5, "d: 5 must be 0: the kind 'cross beam' does not use it"),
+        (log_beam, 4, 1001, "panel length (x): 1001 is outside 10 to 1000 cm"),
+        (chord, 4, 1200, "from support (x): 1200 cm is not below the span of 1200 cm"),
+        (chord, 6, 10001, "dead load (q): 10001 is outside 0 to 10000 kgf/m"),
+        (dowels, 8, 4, "type (s1): 4 is not one of: 1 steel, 2 nail, 3 oak"),
+        (dowels, 14, 5, "joint part (A): 5 is above the chord whole of 4"),
+        (keyed, 10, 1, "s3: 1 must be 0: the section 'area' does not use it"),
+        (plates, 1, 1, "species: 1 must be 0: the kind 'steel plates' does not use it"),
+        (plates, 15, 0, "chord whole (B): 0 is outside 1 to 1000"),
+    ] {
+        assert_eq!(survey_words(&with_word(place, word, value)), [words], "{place} {word}");
+    }
+}
+
+/// All fields of the record that the number is about.
+#[test]
+fn several_fields_at_fault() {
+    let mut bytes = with_word(1, 2, 99);
+    bytes[6 + 16..6 + 18].copy_from_slice(&[40, 0]);
+    let span = "span (l): 99 is outside 100 to 5000 cm";
+    assert_eq!(survey_words(&bytes), [span, "diameter (s1): 40 is outside 13 to 39 cm"]);
+}
+
+#[test]
+fn fields_of_a_vehicle_at_fault() {
+    let [class, track, weight, first_distance, distance] = [5, 6, 9, 11, 15];
+    let mut light = changed(VEHICLE, weight, 0);
+    light[weight + 1] = 0;
+    for (bytes, words) in [
+        (changed(VEHICLE, class, 2), "class: 2 is not one of: 0 lorry, 1 tractor, 1 trailer"),
+        (changed(VEHICLE, track, 10), "track: 10 is outside 100 to 300 cm"),
+        (light, "weight: 0 is outside 1 to 60000 kgf"),
+        (changed(VEHICLE, first_distance, 1), "distance: must be 0 cm, not 1"),
+        (changed(VEHICLE, distance + 1, 255), "distance: 65394 is outside 1 to 2000 cm"),
+    ] {
+        assert_eq!(vehicle_words(&bytes), [words]);
+    }
+}
+
+/// Whatever the damage: a refusal of a record names at least one field, and the tables of the text
+/// form know every fault that the library knows.
+#[test]
+fn every_refused_record_has_a_field_at_fault() {
+    let mut random = Random::new(common::seed(0xf1e1d));
+    let mut seen = [0; 9];
+    for i in 0..50_000 {
+        let (survey, vehicle) = some_damage(&mut random);
+        for (bytes, answer) in
+            [(&survey, check_survey(&survey)), (&vehicle, check_vehicle(&vehicle))]
+        {
+            let Err(refusal) = answer else { continue };
+            let named = explain(bytes, &refusal);
+            assert_eq!(named.is_empty(), refusal.number < 4, "input {i}: {refusal}");
+            seen[usize::try_from(refusal.number).unwrap()] += 1;
+        }
+    }
+    assert!(seen[1..].iter().all(|count| *count > 20), "{seen:?}");
+}
+
+/// A refusal of other bytes, or with a place or number that cannot be, names nothing.
+#[test]
+fn refusals_of_other_bytes_name_nothing() {
+    for file in [Which::Survey, Which::Vehicle] {
+        for number in [0, 1, 3, 4, 7, 8, 9, u64::MAX] {
+            for place in [0, 1, 2, 65, u64::MAX] {
+                let refusal = Refusal { file, number, place };
+                assert_eq!(explain(&[], &refusal), []);
+                explain(SURVEY, &refusal);
+                explain(VEHICLE, &refusal);
+                assert!(!refusal.to_string().is_empty());
+            }
+        }
+    }
+}
+
+/// The public functions on any bytes: an answer or none, no panic.
+#[test]
+fn any_bytes_at_the_public_functions() {
+    let mut random = Random::new(common::seed(0xa11_b17e5));
+    for i in 0..20_000 {
+        let length = random.below(400);
+        let mut bytes = match i % 3 {
+            0 => random.bytes(length),
+            1 => some_damage(&mut random).0,
+            _ => some_damage(&mut random).1,
+        };
+        bytes.truncate(length);
+        hold_total(&bytes);
+        let words = b"survey\nvehicle, stringer, section log, span 5 cm\naxle, weight \xff#\r\t0,";
+        let text: Vec<u8> = (0..length).map(|_| words[random.below(words.len())]).collect();
+        hold_total(&text);
+        if let Err(faults) = read(&text) {
+            assert!(!faults.is_empty());
+            assert!(faults.is_sorted_by_key(|fault| fault.line), "{faults:?}");
+        }
+    }
+}
+
+fn hold_total(bytes: &[u8]) {
+    use tbr::form::{clause, kind_of, look, section_of, write, AXLE, HEADING};
+    let _ = (look(bytes), read(bytes));
+    let members = file::members(bytes);
+    for words in &members {
+        if let (Some(kind), Some(section)) = (kind_of(words), section_of(words)) {
+            let all = kind.fields.iter().chain(section.fields_in(kind));
+            for field in all {
+                let _ = (clause(field, words), clause(field, &[]), field.misfit(words));
+            }
+        }
+    }
+    let survey = file::Contents::Survey(members);
+    let _ = (write(&survey), survey.bytes(), survey.count());
+    if let Some(vehicle) = file::vehicle(bytes) {
+        let _ = (clause(&HEADING[0], &vehicle.heading), clause(&AXLE[1], &[]));
+        let contents = file::Contents::Vehicle(vehicle);
+        let _ = (write(&contents), contents.bytes());
+    }
+}
+
+/// A file's count and class are a byte each.
+#[test]
+fn what_a_file_cannot_hold_has_no_bytes() {
+    use tbr::file::{Contents, Vehicle};
+    let survey = |count| Contents::Survey(vec![[0; 16]; count]).bytes();
+    assert_eq!(survey(255).map(|bytes| bytes.len()), Some(6 + 32 * 255));
+    assert_eq!((survey(256), survey(257), survey(512)), (None, None, None));
+    let vehicle = |class, count| {
+        Contents::Vehicle(Vehicle { heading: [class, 190], axles: vec![[1, 0]; count] }).bytes()
+    };
+    assert_eq!(vehicle(255, 255).map(|bytes| bytes.len()), Some(9 + 4 * 255));
+    assert_eq!((vehicle(256, 1), vehicle(0, 256)), (None, None));
+    for length in 0..9 {
+        assert_eq!(file::vehicle(&VEHICLE[..length]), None);
+        assert_eq!(file::members(&SURVEY[..length]), [[0; 16]; 0]);
+    }
 }

@@ -6,7 +6,9 @@ use common::seed;
 use reference::generate::*;
 use reference::reader;
 use tbr::file::{self, Contents};
-use tbr::form::{read, write, Field, Problem, Value, AXLE, FIRST_AXLE, HEADING, KINDS, SECTIONS};
+use tbr::form::{
+    read, write, Field, Problem, TextError, Value, AXLE, FIRST_AXLE, HEADING, KINDS, SECTIONS,
+};
 
 const STRINGER: &str = "stringer, species pine, span 500 cm, spacing 140 cm, dead load 100 kgf/m, \
                         section log, diameter 28 cm, rot 0 cm, tiers 1";
@@ -25,10 +27,10 @@ fn files_go_to_text_and_back() {
         let survey = survey_bytes(&survey(&mut random, spread, members));
         let vehicle = vehicle_bytes(&vehicle(&mut random, spread, axles));
         let surveyed = Contents::Survey(file::members(&survey));
-        let driven = Contents::Vehicle(file::vehicle(&vehicle));
+        let driven = Contents::Vehicle(file::vehicle(&vehicle).unwrap());
         for (contents, bytes) in [(surveyed, survey), (driven, vehicle)] {
-            assert_eq!(contents.bytes(), bytes, "TBR_SEED={seed}, {i}");
-            let text = write(&contents);
+            assert_eq!(contents.bytes(), Some(bytes), "TBR_SEED={seed}, {i}");
+            let text = write(&contents).unwrap();
             assert_eq!(read(text.as_bytes()), Ok(contents), "TBR_SEED={seed}, {i}: {text}");
         }
     }
@@ -48,6 +50,34 @@ fn order_comments_and_blanks_are_free() {
     assert_eq!(read(turned.as_bytes()), Ok(plain));
 }
 
+/// Byte order mark, ends of lines, tabs, blanks within a name and before a unit, commas at the end.
+#[test]
+fn what_editors_and_spreadsheets_leave() {
+    let plain = format!("survey\n{STRINGER}\n{JOINT}\n");
+    let taken = read(plain.as_bytes()).unwrap();
+    for (what, text) in [
+        ("a byte order mark", format!("\u{feff}{plain}")),
+        ("CRLF", plain.replace('\n', "\r\n")),
+        ("tabs", plain.replace(' ', "\t")),
+        ("several blanks", plain.replace(' ', "  \t ")),
+        ("no-break spaces", plain.replace(' ', "\u{a0}")),
+        ("commas at the end", plain.replace('\n', ",\n")),
+        ("columns of a spreadsheet", plain.replace('\n', " ,,, ,\r\n") + ",,,\r\n"),
+        ("no end of the last line", plain.trim_end().to_string()),
+        ("all of it", format!("\u{feff}{plain}").replace(' ', " \t").replace('\n', " , \r\n")),
+    ] {
+        assert_eq!(read(text.as_bytes()), Ok(taken.clone()), "{what}");
+    }
+    let vehicle = format!("vehicle, class lorry, track 190 cm\n{AXLES}\n");
+    let spread = vehicle.replace(", ", "\t,\t").replace(' ', "   ").replace('\n', ",\r\n");
+    assert_eq!(read(spread.as_bytes()), read(vehicle.as_bytes()));
+    // A comment in another encoding: no byte of it matters.
+    let comment = [b"survey # Br\xfccke \xff\n", STRINGER.as_bytes()].concat();
+    assert_eq!(read(&comment), read(format!("survey\n{STRINGER}").as_bytes()));
+    // A mark counts at the beginning only.
+    assert!(read(format!("survey\n\u{feff}{STRINGER}").as_bytes()).is_err());
+}
+
 /// Words with one number: maple and hornbeam are ash, a heavy trailer is of the tractors' class.
 #[test]
 fn words_with_one_number() {
@@ -63,8 +93,8 @@ fn words_with_one_number() {
 /// The reference takes the file of this text.
 fn is_taken(contents: &Contents) -> bool {
     match contents {
-        Contents::Survey(_) => reader::survey(&contents.bytes()).is_ok(),
-        Contents::Vehicle(_) => reader::vehicle(&contents.bytes()).is_ok(),
+        Contents::Survey(_) => reader::survey(&contents.bytes().unwrap()).is_ok(),
+        Contents::Vehicle(_) => reader::vehicle(&contents.bytes().unwrap()).is_ok(),
     }
 }
 
@@ -88,11 +118,12 @@ fn hold_limits(before: &str, line: &str, fields: &[&Field]) {
         let (least, greatest) = (u64::from(limits.least), u64::from(limits.greatest));
         for number in [least, greatest] {
             let contents = read(text(field, number).as_bytes());
-            let contents = contents.unwrap_or_else(|e| panic!("{e}: {}", text(field, number)));
+            let contents = contents.unwrap_or_else(|e| panic!("{e:?}: {}", text(field, number)));
             assert!(is_taken(&contents), "{}", text(field, number));
         }
         for number in [least.wrapping_sub(1), greatest + 1, 65_536 + least, u64::MAX] {
-            let error = read(text(field, number).as_bytes()).unwrap_err();
+            let faults = read(text(field, number).as_bytes()).unwrap_err();
+            let [error] = &faults[..] else { panic!("{faults:?}") };
             assert_eq!((error.line, error.field.as_str()), (line_number, field.name), "{error}");
             assert!(matches!(error.problem, Problem::Outside { .. }), "{error}");
         }
@@ -102,7 +133,7 @@ fn hold_limits(before: &str, line: &str, fields: &[&Field]) {
 #[test]
 fn the_limits_of_every_field_of_every_kind_and_section() {
     for kind in &KINDS {
-        let (chosen, _) = kind.fields.split_last().unwrap();
+        let chosen = kind.section().unwrap();
         let Value::Word(codes) = chosen.value else { panic!("{}", chosen.name) };
         for (_, code) in codes {
             let section = SECTIONS.iter().find(|section| section.code == *code).unwrap();
@@ -112,7 +143,7 @@ fn the_limits_of_every_field_of_every_kind_and_section() {
             [words[0], words[7]] = [kind.code, section.code];
             [words[2], words[3], words[4], words[5]] = [5000, 10, 10, 10];
             [words[8], words[15]] = [if *code == 1 { 13 } else { 1 }, 1000];
-            let text = write(&Contents::Survey(vec![words]));
+            let text = write(&Contents::Survey(vec![words])).unwrap();
             let line = text.lines().nth(1).unwrap();
             let fields = kind.fields.iter().chain(section.fields_in(kind));
             hold_limits("survey\n", line, &fields.collect::<Vec<_>>());
@@ -134,9 +165,17 @@ fn the_limits_of_every_field_of_a_vehicle() {
     }
 }
 
-/// Line, field and message of the error of this text.
+/// Line, field and message of all faults of this text, each on a line.
+fn faults(text: &[u8]) -> String {
+    let faults: Vec<String> = read(text).unwrap_err().iter().map(TextError::to_string).collect();
+    faults.join("\n")
+}
+
+/// The same of a text that has one fault.
 fn error(text: &str) -> String {
-    read(text.as_bytes()).unwrap_err().to_string()
+    let faults = faults(text.as_bytes());
+    assert_eq!(faults.lines().count(), 1, "{faults}");
+    faults
 }
 
 /// The same for a stringer with a part replaced.
@@ -151,7 +190,8 @@ fn errors_of_the_heading() {
     assert_eq!(error(""), format!("line 1, {heading}"));
     assert_eq!(error("# nothing\n\n"), format!("line 1, {heading}"));
     assert_eq!(error(&format!("\n{STRINGER}\n")), format!("line 2, {heading}"));
-    assert_eq!(error("survey, old\n"), "line 1, 'old': there is no such field here");
+    let old = format!("survey, old\n{STRINGER}\n");
+    assert_eq!(error(&old), "line 1, 'old': there is no such field here");
     assert_eq!(error("survey\n"), "line 1, member: none follows the heading");
     assert_eq!(
         error("vehicle, class lorry, track 190 cm\n"),
@@ -162,8 +202,7 @@ fn errors_of_the_heading() {
         error(&format!("vehicle, class bus, track 190 cm\n{AXLES}")),
         "line 1, class: 'bus' is not one of: lorry, tractor, trailer"
     );
-    let line = read(b"survey\nstringer \xff\n").unwrap_err().to_string();
-    assert_eq!(line, "line 2, text: this is not text (UTF-8)");
+    assert_eq!(faults(b"survey\nstringer \xff\n"), "line 2, text: this is not text (UTF-8)");
 }
 
 #[test]
@@ -199,7 +238,6 @@ fn errors_of_a_member() {
     assert_eq!(stringer(", tiers 1", ", tiers 1, tiers 2"), "line 3, tiers: stands here twice");
     let height = "'truss height 90 cm': there is no such field here";
     assert_eq!(stringer("tiers 1", "tiers 1, truss height 90 cm"), format!("line 3, {height}"));
-    assert_eq!(stringer("tiers 1", "tiers 1,"), "line 3, '': there is no such field here");
     let sawn = "section sawn, width 20 cm, height 20 cm, side rot 0 cm, top rot 0 cm, pieces 1, \
                 lost area 0 cm2";
     let log = "section log, diameter 28 cm, rot 0 cm, tiers 1";
@@ -245,4 +283,93 @@ fn errors_of_an_axle() {
     assert_eq!(vehicle("1500", "0"), "line 2, weight: 0 is outside 1 to 60000 kgf");
     assert_eq!(vehicle("axle", "wheel"), "line 2, axle: 'wheel' is not one of: axle");
     assert_eq!(vehicle(", weight 1500 kgf", ""), "line 2, weight: is missing");
+}
+
+/// Every fault of a file in one run, in the order of its lines.
+#[test]
+fn all_faults_at_once() {
+    let text = format!(
+        "survey, old\n\
+         {STRINGER}\n\
+         strut, span 500 cm\n\
+         {}\n\
+         # a comment\n\
+         {}, colour red\n\
+         {}\n",
+        STRINGER.replace("span 500 cm", "span 5 m").replace(", rot 0 cm", "").replace("28", "128"),
+        JOINT.replace("part 2", "part 5").replace("from support 600", "from support 1200"),
+        STRINGER.replace("pine", "palm"),
+    );
+    let expected = [
+        "line 1, 'old': there is no such field here",
+        "line 3, kind: 'strut' is not one of: stringer, cross beam, chord, dowelled joint, \
+         keyed joint, steel plates",
+        "line 4, span: the unit is cm, not 'm'",
+        "line 4, diameter: 128 is outside 13 to 39 cm",
+        "line 4, rot: is missing",
+        "line 6, 'colour red': there is no such field here",
+        "line 6, from support: 1200 cm is not below the span of 1200 cm",
+        "line 6, joint part: 5 is above the chord whole of 4",
+        "line 7, species: 'palm' is not one of: pine, spruce, larch, cedar, fir, oak, ash, maple, \
+         hornbeam, beech",
+    ];
+    assert_eq!(faults(text.as_bytes()), expected.join("\n"));
+    let vehicle = b"vehicle, class bus, track 99 cm\naxle, weight 0 kgf, distance 1 cm\n\
+                    wheel\naxle, weight 5, distance 5 cm, distance 6 cm\n\xff\n";
+    let expected = [
+        "line 1, class: 'bus' is not one of: lorry, tractor, trailer",
+        "line 1, track: 99 is outside 100 to 300 cm",
+        "line 2, weight: 0 is outside 1 to 60000 kgf",
+        "line 2, distance: must be 0 cm, not 1",
+        "line 3, axle: 'wheel' is not one of: axle",
+        "line 4, weight: the unit is kgf, not ''",
+        "line 4, distance: stands here twice",
+        "line 5, text: this is not text (UTF-8)",
+    ];
+    assert_eq!(faults(vehicle), expected.join("\n"));
+}
+
+/// Faults in more lines than a file holds: each of them, and that there are too many.
+#[test]
+fn faults_beyond_the_last_place() {
+    let text = format!("survey\n{}{}", format!("{STRINGER}\n").repeat(63), "strut\n".repeat(3));
+    let faults = faults(text.as_bytes());
+    let lines: Vec<&str> = faults.lines().map(|fault| fault.split(':').next().unwrap()).collect();
+    assert_eq!(lines, ["line 65, kind", "line 66, member", "line 66, kind", "line 67, kind"]);
+}
+
+/// Without its section it is not known which fields a line has: only the section is missed, and
+/// what is of no section.
+#[test]
+fn a_missing_section_is_one_fault() {
+    for section in ["", ", section", ", section tube", ", section log, section sawn"] {
+        let line = STRINGER.replace(", section log", section);
+        let faults = faults(format!("survey\n{line}, top rot 1 cm\n").as_bytes());
+        assert!(faults.starts_with("line 2, section: "), "{faults}");
+        assert_eq!(faults.lines().count(), 1, "{faults}");
+    }
+    let line = STRINGER.replace(", section log", ", cuts 4").replace("500", "50");
+    let expected = [
+        "line 2, 'cuts 4': there is no such field here",
+        "line 2, span: 50 is outside 100 to 5000 cm",
+        "line 2, section: is missing",
+    ];
+    assert_eq!(faults(format!("survey\n{line}\n").as_bytes()), expected.join("\n"));
+}
+
+/// A missing or misspelt heading is one fault, and the records below it are still read.
+#[test]
+fn records_without_their_heading() {
+    let heading = "heading: the first line must be 'survey' or 'vehicle, ..'";
+    let (wrong, span) = (STRINGER.replace("500", "50"), "span: 50 is outside 100 to 5000 cm");
+    let missing = format!("{STRINGER}\n{wrong}\n");
+    assert_eq!(faults(missing.as_bytes()), format!("line 1, {heading}\nline 2, {span}"));
+    let misspelt = format!("survy\n{STRINGER}\n{wrong}\n");
+    assert_eq!(faults(misspelt.as_bytes()), format!("line 1, {heading}\nline 3, {span}"));
+    let axles = AXLES.replace("370", "0");
+    let distance = "distance: 0 is outside 1 to 2000 cm";
+    assert_eq!(faults(axles.as_bytes()), format!("line 1, {heading}\nline 2, {distance}"));
+    let not_text = [b"survey \xff\n", STRINGER.as_bytes()].concat();
+    assert_eq!(faults(&not_text), "line 1, text: this is not text (UTF-8)");
+    assert_eq!(faults(b"a letter\nto nobody\n"), format!("line 1, {heading}"));
 }

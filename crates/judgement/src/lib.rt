@@ -27,7 +27,7 @@ fn verdict_number(v: Verdict) -> u64
     }
 }
 
-fn numbers_of(answer: Judged) -> Numbers
+pub fn numbers_of(answer: Judged) -> Numbers
     ensures { λ r. ⌜ r ≡ numbersOf (judgeAnswer answer) ⌝ }
 {
     match answer {

@@ -1,5 +1,6 @@
-//! The fast twin, for the benchmark: the same judgement in 64-bit arithmetic, trying only the
-//! positions that put an axle over the apex (2 × axles × axles steps a member).
+//! The fast twin, for the benchmark: the library's algorithm in plain Rust, in 64-bit arithmetic.
+//! Only the positions that put an axle over the apex are tried, a sum ends at the first axle that
+//! is not on the base yet, and a triangle with its apex in the middle is tried once.
 
 use crate::influence::{offsets, triangle};
 use crate::judge::{bridge, Judged, Rated};
@@ -84,6 +85,10 @@ fn greatest_sum(base: usize, apex: usize, axles: &[Axle], behind: &[usize]) -> u
         let mut sum = 0;
         for (axle, offset) in axles.iter().zip(behind) {
             let s = front.saturating_sub(*offset);
+            // This axle and all behind it are not on the base yet.
+            if s == 0 {
+                break;
+            }
             let height = if s <= apex { s * (base - apex) } else { base.saturating_sub(s) * apex };
             sum += u64::from(axle.weight) * height as u64;
         }
@@ -95,7 +100,9 @@ fn greatest_sum(base: usize, apex: usize, axles: &[Axle], behind: &[usize]) -> u
 fn vehicle_load(m: &Member, axles: &[Axle], behind: &[usize]) -> u64 {
     let (base, apex) = triangle(m);
     let forth = greatest_sum(base, apex, axles, behind);
-    let back = greatest_sum(base, base - apex, axles, behind);
+    // From the other end an apex in the middle is the same.
+    let back =
+        if 2 * apex == base { forth } else { greatest_sum(base, base - apex, axles, behind) };
     (400 * forth.max(back)).div_ceil((apex * (base - apex) * base) as u64)
 }
 

@@ -1,4 +1,4 @@
-//! What is wrong with a text form, by line and field.
+//! What is wrong with a text form, by line and field, or with a record of a file, by field.
 
 use super::field::Limits;
 use std::fmt;
@@ -6,8 +6,20 @@ use std::fmt;
 /// A fault of the text: its line, from 1, the field, and what is wrong with it.
 #[derive(Clone, Debug, PartialEq, Eq)]
 pub struct TextError {
+    /// The line, from 1.
     pub line: usize,
+    /// The field by name, or the words that are no field.
     pub field: String,
+    /// What is wrong with it.
+    pub problem: Problem,
+}
+
+/// A fault of a record in a file: the field and what is wrong with it.
+#[derive(Clone, Debug, PartialEq, Eq)]
+pub struct FieldFault {
+    /// The field by name and by the letter of the layout.
+    pub field: String,
+    /// What is wrong with it.
     pub problem: Problem,
 }
 
@@ -21,9 +33,17 @@ pub enum Problem {
     /// No member or axle follows the heading.
     NoRecord,
     /// More members or axles than a file holds.
-    TooMany { most: usize },
-    /// The line opens with none of these words.
-    NotOneOf { found: String, allowed: Vec<&'static str> },
+    TooMany {
+        /// So many it holds.
+        most: usize,
+    },
+    /// The line opens with none of these words, or the field has none of them.
+    NotOneOf {
+        /// What stands there.
+        found: String,
+        /// What may stand there.
+        allowed: Vec<&'static str>,
+    },
     /// No field of this line is named so.
     UnknownField,
     /// The field does not stand in the line.
@@ -31,20 +51,85 @@ pub enum Problem {
     /// The field stands in the line twice.
     Twice,
     /// The value is not a whole number.
-    NotWhole { found: String },
+    NotWhole {
+        /// What stands there.
+        found: String,
+    },
     /// The unit is another one, or none.
-    Unit { found: String, unit: &'static str },
+    Unit {
+        /// What stands there.
+        found: String,
+        /// The field's unit.
+        unit: &'static str,
+    },
     /// The number is outside its limits.
-    Outside { found: String, limits: Limits },
-    /// The point is not within the span.
-    NotBelowSpan { found: u16, span: u16 },
-    /// A is above B.
-    AboveWhole { found: u16, whole: u16 },
+    Outside {
+        /// The number.
+        found: String,
+        /// Its limits.
+        limits: Limits,
+    },
+    /// The number stands for none of the words.
+    NoCode {
+        /// The number.
+        found: u16,
+        /// The words, each with its number.
+        allowed: Vec<(&'static str, u16)>,
+    },
+    /// The number is not below that of another field.
+    NotBelow {
+        /// The number.
+        found: u16,
+        /// The other field's name.
+        other: &'static str,
+        /// The other field's number.
+        limit: u16,
+        /// The unit of both.
+        unit: &'static str,
+    },
+    /// The number is above that of another field.
+    Above {
+        /// The number.
+        found: u16,
+        /// The other field's name.
+        other: &'static str,
+        /// The other field's number.
+        limit: u16,
+        /// The unit of both.
+        unit: &'static str,
+    },
+    /// The field is unused, and not 0.
+    Unused {
+        /// The number.
+        found: u16,
+        /// Why nothing uses it.
+        why: String,
+    },
 }
 
 impl fmt::Display for TextError {
     fn fmt(&self, f: &mut fmt::Formatter) -> fmt::Result {
         write!(f, "line {}, {}: {}", self.line, self.field, self.problem)
+    }
+}
+
+impl fmt::Display for FieldFault {
+    fn fmt(&self, f: &mut fmt::Formatter) -> fmt::Result {
+        write!(f, "{}: {}", self.field, self.problem)
+    }
+}
+
+/// A number with its unit, where it has one.
+fn with_unit(number: impl fmt::Display, unit: &str) -> String {
+    format!("{number} {unit}").trim_end().to_string()
+}
+
+/// The limits, or the one number that is taken.
+fn outside(f: &mut fmt::Formatter, found: &str, limits: &Limits) -> fmt::Result {
+    let greatest = with_unit(limits.greatest, limits.unit);
+    match limits.least == limits.greatest {
+        true => write!(f, "must be {greatest}, not {found}"),
+        false => write!(f, "{found} is outside {} to {greatest}", limits.least),
     }
 }
 
@@ -64,20 +149,24 @@ impl fmt::Display for Problem {
             Problem::NotWhole { found } => write!(f, "'{found}' is not a whole number"),
             Problem::Unit { found, unit: "" } => write!(f, "'{found}' follows a plain number"),
             Problem::Unit { found, unit } => write!(f, "the unit is {unit}, not '{found}'"),
-            Problem::Outside { found, limits: Limits { least, greatest, unit } } => {
-                if least == greatest {
-                    return write!(f, "must be {least} {unit}, not {found}");
-                }
-                write!(f, "{found} is outside {least} to {greatest} {unit}")
+            Problem::Outside { found, limits } => outside(f, found, limits),
+            Problem::NoCode { found, allowed } => {
+                let code = |(word, number): &(&str, u16)| format!("{number} {word}");
+                let allowed: Vec<String> = allowed.iter().map(code).collect();
+                write!(f, "{found} is not one of: {}", allowed.join(", "))
             }
-            Problem::NotBelowSpan { found, span } => {
-                write!(f, "{found} cm is not below the span of {span} cm")
+            Problem::NotBelow { found, other, limit, unit } => {
+                let (found, limit) = (with_unit(found, unit), with_unit(limit, unit));
+                write!(f, "{found} is not below the {other} of {limit}")
             }
-            Problem::AboveWhole { found, whole } => {
-                write!(f, "{found} is above the chord whole of {whole}")
+            Problem::Above { found, other, limit, unit } => {
+                let (found, limit) = (with_unit(found, unit), with_unit(limit, unit));
+                write!(f, "{found} is above the {other} of {limit}")
             }
+            Problem::Unused { found, why } => write!(f, "{found} must be 0: {why}"),
         }
     }
 }
 
 impl std::error::Error for TextError {}
+impl std::error::Error for FieldFault {}

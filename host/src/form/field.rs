@@ -1,6 +1,9 @@
 //! A named number of a record.
 
+use super::error::Problem;
+
 /// A field: its name in the text form, its word in the record, and what it may be.
+#[derive(Clone, Copy, Debug)]
 pub struct Field {
     /// The field's term.
     pub name: &'static str,
@@ -8,9 +11,12 @@ pub struct Field {
     pub word: usize,
     /// What it may be.
     pub value: Value,
+    /// What it may be beside another field of its record.
+    pub within: Option<Within>,
 }
 
 /// What a field may be.
+#[derive(Clone, Copy, Debug)]
 pub enum Value {
     /// A whole number.
     Number(Limits),
@@ -22,9 +28,21 @@ pub enum Value {
 /// A number's least and greatest value and its unit; a plain count has none.
 #[derive(Clone, Copy, Debug, PartialEq, Eq)]
 pub struct Limits {
+    /// The least that is taken.
     pub least: u16,
+    /// The greatest that is taken.
     pub greatest: u16,
+    /// The unit, as it is written behind the number.
     pub unit: &'static str,
+}
+
+/// A limit that another field of the record sets.
+#[derive(Clone, Copy, Debug)]
+pub enum Within {
+    /// Less than the other.
+    Below(&'static Field),
+    /// The other or less.
+    AtMost(&'static Field),
 }
 
 /// A number field.
@@ -35,10 +53,62 @@ pub const fn number(
     greatest: u16,
     unit: &'static str,
 ) -> Field {
-    Field { name, word, value: Value::Number(Limits { least, greatest, unit }) }
+    Field { name, word, value: Value::Number(Limits { least, greatest, unit }), within: None }
 }
 
 /// A field of words.
 pub const fn words(name: &'static str, word: usize, all: &'static [(&'static str, u16)]) -> Field {
-    Field { name, word, value: Value::Word(all) }
+    Field { name, word, value: Value::Word(all), within: None }
+}
+
+impl Field {
+    /// The same field, with a limit that another sets.
+    pub(super) const fn within(self, within: Within) -> Field {
+        Field { within: Some(within), ..self }
+    }
+
+    /// Its number in a record; None where the record is too short to hold it.
+    pub fn of(&self, words: &[u16]) -> Option<u16> {
+        words.get(self.word).copied()
+    }
+
+    /// Its unit; none for words and plain counts.
+    pub fn unit(&self) -> &'static str {
+        match self.value {
+            Value::Number(limits) => limits.unit,
+            Value::Word(_) => "",
+        }
+    }
+
+    /// What is wrong with this number in the field, whatever the other fields hold.
+    pub fn problem(&self, found: u16) -> Option<Problem> {
+        match self.value {
+            Value::Number(limits) => {
+                let holds = (limits.least..=limits.greatest).contains(&found);
+                (!holds).then(|| Problem::Outside { found: found.to_string(), limits })
+            }
+            Value::Word(all) => {
+                let known = all.iter().any(|(_, number)| *number == found);
+                (!known).then(|| Problem::NoCode { found, allowed: all.to_vec() })
+            }
+        }
+    }
+
+    /// What is wrong with it beside the other field that limits it, where both are sound alone.
+    pub fn misfit(&self, words: &[u16]) -> Option<Problem> {
+        let (Within::Below(other) | Within::AtMost(other)) = self.within?;
+        let [found, limit] = [self, other]
+            .map(|field| field.of(words).filter(|number| field.problem(*number).is_none()));
+        let (found, limit) = (found?, limit?);
+        let (other, unit) = (other.name, self.unit());
+        match self.within? {
+            Within::Below(_) if found >= limit => {
+                Some(Problem::NotBelow { found, other, limit, unit })
+            }
+            Within::AtMost(_) if found > limit => {
+                Some(Problem::Above { found, other, limit, unit })
+            }
+            _ => None,
+        }
+    }
 }

@@ -3,25 +3,32 @@
 use super::error::{Problem, TextError};
 use super::field::{Field, Limits, Value};
 
-/// A line with something in it: its number, its first words, and its other clauses.
-pub struct Line<'a> {
+/// A line with something in it: its number, its first words, and its other clauses, in all of
+/// which one blank stands for any run of blanks and tabs.
+pub struct Line {
     pub number: usize,
-    pub head: &'a str,
-    clauses: Vec<&'a str>,
+    pub head: String,
+    clauses: Vec<String>,
 }
 
-impl<'a> Line<'a> {
-    /// The line without its comment; None where nothing is left.
-    pub fn cut(number: usize, text: &'a str) -> Option<Line<'a>> {
-        let text = text.split('#').next().unwrap_or("").trim();
-        let mut clauses = text.split(',').map(str::trim);
-        let head = clauses.next().filter(|_| !text.is_empty())?;
-        Some(Line { number, head, clauses: clauses.collect() })
+fn one_blank(text: &str) -> String {
+    text.split_whitespace().collect::<Vec<_>>().join(" ")
+}
+
+impl Line {
+    /// A line without its comment; None where nothing is left. Empty clauses, as a comma at the
+    /// end leaves them, are passed over: what they might have held is missed by name.
+    pub fn cut(number: usize, text: &str) -> Option<Line> {
+        let mut clauses = text.split(',').map(one_blank);
+        let head = clauses.next()?;
+        let clauses: Vec<String> = clauses.filter(|clause| !clause.is_empty()).collect();
+        let blank = head.is_empty() && clauses.is_empty();
+        (!blank).then_some(Line { number, head, clauses })
     }
 
     /// A fault of this line.
-    pub fn fault<T>(&self, field: &str, problem: Problem) -> Result<T, TextError> {
-        Err(TextError { line: self.number, field: field.to_string(), problem })
+    pub fn fault(&self, field: &str, problem: Problem) -> TextError {
+        TextError { line: self.number, field: field.to_string(), problem }
     }
 
     /// The one value of a field in this line.
@@ -35,39 +42,50 @@ impl<'a> Line<'a> {
                 Value::Word(all) => one_of(text, all),
             },
         };
-        value.or_else(|problem| self.fault(field.name, problem))
+        value.map_err(|problem| self.fault(field.name, problem))
     }
 
-    /// Every clause is of one of the fields, every field has one clause; the values go to their
-    /// words.
-    pub fn fill(&self, fields: &[&Field], words: &mut [u16]) -> Result<(), TextError> {
-        for clause in &self.clauses {
-            if !fields.iter().any(|field| after_name(clause, field).is_some()) {
-                return self.fault(&format!("'{clause}'"), Problem::UnknownField);
+    /// The clauses that are of none of these fields.
+    pub fn strangers(&self, fields: &[&Field]) -> Vec<TextError> {
+        let known = |clause: &str| fields.iter().any(|field| after_name(clause, field).is_some());
+        let strangers = self.clauses.iter().filter(|clause| !known(clause));
+        strangers.map(|clause| self.fault(&format!("'{clause}'"), Problem::UnknownField)).collect()
+    }
+
+    /// The values of the fields go to their words; a field that has none stays 0. All faults come
+    /// back: of the fields alone, then of two beside each other.
+    pub fn fill(&self, fields: &[&Field], words: &mut [u16]) -> Vec<TextError> {
+        let mut faults = Vec::new();
+        for field in fields {
+            match (self.value(field), words.get_mut(field.word)) {
+                (Ok(value), Some(word)) => *word = value,
+                (Ok(_), None) => {}
+                (Err(fault), _) => faults.push(fault),
             }
         }
-        for field in fields {
-            words[field.word] = self.value(field)?;
-        }
-        Ok(())
+        let misfit = |field: &&Field| Some(self.fault(field.name, field.misfit(words)?));
+        faults.extend(fields.iter().filter_map(misfit));
+        faults
     }
 }
 
 /// What follows the field's name in a clause.
 fn after_name<'a>(clause: &'a str, field: &Field) -> Option<&'a str> {
-    let rest = clause.strip_prefix(field.name)?;
-    (rest.is_empty() || rest.starts_with(char::is_whitespace)).then(|| rest.trim())
+    match clause.strip_prefix(field.name)? {
+        "" => Some(""),
+        rest => rest.strip_prefix(' '),
+    }
 }
 
 /// A whole number within its limits, and its unit.
 fn number(text: &str, limits: Limits) -> Result<u16, Problem> {
-    let (digits, unit) = text.split_once(char::is_whitespace).unwrap_or((text, ""));
+    let (digits, unit) = text.split_once(' ').unwrap_or((text, ""));
     let found = digits.to_string();
     if digits.is_empty() || !digits.bytes().all(|byte| byte.is_ascii_digit()) {
         return Err(Problem::NotWhole { found });
     }
-    if unit.trim() != limits.unit {
-        return Err(Problem::Unit { found: unit.trim().to_string(), unit: limits.unit });
+    if unit != limits.unit {
+        return Err(Problem::Unit { found: unit.to_string(), unit: limits.unit });
     }
     match digits.parse() {
         Ok(value) if (limits.least..=limits.greatest).contains(&value) => Ok(value),

@@ -12,17 +12,24 @@
 //! axle, weight 3000 kgf, distance 370 cm
 //! ```
 //! `#` opens a comment; blank lines are passed over; the order within a line is free after its
-//! first words.
+//! first words. A byte order mark, either end of line, any run of blanks and tabs, and a comma at the
+//! end of a line are taken as they are meant.
 
 mod error;
+mod explain;
 mod field;
 mod line;
+mod look;
 mod read;
 mod tables;
 mod write;
 
-pub use error::{Problem, TextError};
-pub use field::{Field, Limits, Value};
+pub use error::{FieldFault, Problem, TextError};
+pub use explain::explain;
+pub use field::{Field, Limits, Value, Within};
+pub use look::{look, Look};
 pub use read::read;
-pub use tables::{Kind, Section, AXLE, FIRST_AXLE, HEADING, KINDS, SECTIONS};
+pub use tables::{
+    Kind, Layout, Section, ALL_SPECIES, AXLE, FIRST_AXLE, HEADING, KINDS, MEMBER_LETTERS, SECTIONS,
+};
 pub use write::{clause, kind_of, section_of, write};

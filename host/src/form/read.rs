@@ -1,103 +1,192 @@
 //! Text form to the words of a file.
 
 use super::error::{Problem, TextError};
-use super::field::Field;
+use super::field::{Field, Value};
 use super::line::Line;
 use super::tables::*;
 use crate::file::{Axle, Contents, Member, Vehicle};
+use crate::refusal::Which;
 
-/// What holds between two fields: the point is within the span, A is at most B.
-fn fits_together(line: &Line, kind: &Kind, words: &Member) -> Result<(), TextError> {
-    let [span, x, part, whole] = [words[2], words[4], words[14], words[15]];
-    if kind.code >= 3 && x >= span {
-        return line.fault("from support", Problem::NotBelowSpan { found: x, span });
-    }
-    if part > whole {
-        return line.fault("joint part", Problem::AboveWhole { found: part, whole });
-    }
-    Ok(())
+/// A line of the text, or the fault that it is none.
+type Cut = Result<Line, TextError>;
+
+/// The lines with something in them. A byte order mark is passed over; a comment may be in any
+/// encoding.
+fn lines(bytes: &[u8]) -> Vec<Cut> {
+    let bytes = bytes.strip_prefix(b"\xef\xbb\xbf").unwrap_or(bytes);
+    let cut = |(line, number): (&[u8], usize)| {
+        let text = line.split(|byte| *byte == b'#').next().unwrap_or_default();
+        match std::str::from_utf8(text) {
+            Ok(text) => Line::cut(number, text).map(Ok),
+            Err(_) => {
+                let (field, problem) = ("text".to_string(), Problem::NotText);
+                Some(Err(TextError { line: number, field, problem }))
+            }
+        }
+    };
+    bytes.split(|byte| *byte == b'\n').zip(1..).filter_map(cut).collect()
 }
 
-fn member(line: &Line) -> Result<Member, TextError> {
+/// The file that this line is the heading of.
+fn headed(line: &Cut) -> Option<Which> {
+    match line.as_ref().ok()?.head.as_str() {
+        "survey" => Some(Which::Survey),
+        "vehicle" => Some(Which::Vehicle),
+        _ => None,
+    }
+}
+
+/// The file that this line is a record of.
+fn recorded(line: &Cut) -> Option<Which> {
+    match line.as_ref().ok()?.head.as_str() {
+        "axle" => Some(Which::Vehicle),
+        head => KINDS.iter().any(|kind| kind.name == head).then_some(Which::Survey),
+    }
+}
+
+/// Which file a text is the form of: by its heading or, where that is wrong, by the first of its
+/// lines that tells.
+pub fn text_of(bytes: &[u8]) -> Option<Which> {
+    which(&lines(bytes))
+}
+
+fn which(lines: &[Cut]) -> Option<Which> {
+    lines.first().and_then(headed).or_else(|| lines.iter().find_map(recorded))
+}
+
+/// The section of the line. Where it has none that suits, its fields are not known: none is asked
+/// for, and those of every section that suits are let pass.
+fn section_fields(line: &Line, kind: &Kind) -> (&'static [Field], Vec<&'static Field>) {
+    let Some(chosen) = kind.section() else { return (&[], Vec::new()) };
+    if let Some(section) = line.value(chosen).ok().and_then(Section::of) {
+        return (section.fields_in(kind), Vec::new());
+    }
+    let Value::Word(codes) = chosen.value else { return (&[], Vec::new()) };
+    let suiting = codes.iter().filter_map(|(_, code)| Section::of(*code));
+    (&[], suiting.flat_map(|section| section.fields_in(kind)).collect())
+}
+
+fn member(line: &Line, faults: &mut Vec<TextError>) -> Member {
+    let mut words: Member = [0; 16];
     let Some(kind) = KINDS.iter().find(|kind| kind.name == line.head) else {
         let allowed = KINDS.iter().map(|kind| kind.name).collect();
-        let found = line.head.to_string();
-        return line.fault("kind", Problem::NotOneOf { found, allowed });
+        faults.push(line.fault("kind", Problem::NotOneOf { found: line.head.clone(), allowed }));
+        return words;
     };
-    let mut words: Member = [0; 16];
-    words[0] = kind.code;
-    let mut fields: Vec<&Field> = kind.fields.iter().collect();
-    // The section says which other fields the line has.
-    let chosen = fields.iter().find(|field| field.word == SECTION_WORD);
-    let code = line.value(chosen.expect("every kind has a section"))?;
-    let section = SECTIONS.iter().find(|section| section.code == code);
-    fields.extend(section.expect("every code has its section").fields_in(kind));
-    line.fill(&fields, &mut words)?;
-    fits_together(line, kind, &words)?;
-    Ok(words)
+    words[KIND_WORD] = kind.code;
+    let (own, let_pass) = section_fields(line, kind);
+    let fields: Vec<&Field> = kind.fields.iter().chain(own).collect();
+    faults.extend(line.strangers(&[fields.clone(), let_pass].concat()));
+    faults.extend(line.fill(&fields, &mut words));
+    words
 }
 
-fn axle(line: &Line, fields: &[Field; 2]) -> Result<Axle, TextError> {
+/// The two numbers of a vehicle's heading or of an axle.
+fn pair(line: &Line, fields: &[Field; 2], faults: &mut Vec<TextError>) -> [u16; 2] {
+    let mut words = [0; 2];
+    faults.extend(line.strangers(&fields.each_ref()));
+    faults.extend(line.fill(&fields.each_ref(), &mut words));
+    words
+}
+
+fn axle(line: &Line, fields: &[Field; 2], faults: &mut Vec<TextError>) -> Axle {
     if line.head != "axle" {
-        let found = line.head.to_string();
-        return line.fault("axle", Problem::NotOneOf { found, allowed: vec!["axle"] });
+        let found = line.head.clone();
+        faults.push(line.fault("axle", Problem::NotOneOf { found, allowed: vec!["axle"] }));
+        return [0; 2];
     }
-    let mut words: Axle = [0; 2];
-    line.fill(&fields.each_ref(), &mut words)?;
-    Ok(words)
+    pair(line, fields, faults)
 }
 
-/// The lines after the heading, at least one and at most `most`, each read by `read`.
+/// The lines after the heading, at least one and at most as many as the file holds, each read by
+/// `read` with its place, from 0.
 fn records<T>(
-    heading: &Line,
-    lines: &[Line],
-    (name, most): (&str, usize),
-    mut read: impl FnMut(&Line) -> Result<T, TextError>,
-) -> Result<Vec<T>, TextError> {
-    if lines.is_empty() {
-        return heading.fault(name, Problem::NoRecord);
+    (which, heading): (Which, usize),
+    lines: &[Cut],
+    faults: &mut Vec<TextError>,
+    read: impl Fn(usize, &Line, &mut Vec<TextError>) -> T,
+) -> Vec<T> {
+    let Layout { record, most, .. } = *which.layout();
+    let mut fault = |line, problem| {
+        faults.push(TextError { line, field: record.to_string(), problem });
+    };
+    match lines.get(most) {
+        _ if lines.is_empty() => fault(heading, Problem::NoRecord),
+        Some(Ok(line)) => fault(line.number, Problem::TooMany { most }),
+        Some(Err(not_text)) => fault(not_text.line, Problem::TooMany { most }),
+        None => {}
     }
-    if let Some(line) = lines.get(most) {
-        return line.fault(name, Problem::TooMany { most });
+    let mut all = Vec::new();
+    for (place, line) in lines.iter().enumerate() {
+        match line {
+            Ok(line) => all.push(read(place, line, faults)),
+            Err(fault) => faults.push(fault.clone()),
+        }
     }
-    lines.iter().map(&mut read).collect()
+    all
 }
 
-/// The text of the bytes, or the line that is not UTF-8.
-fn text_of(bytes: &[u8]) -> Result<&str, TextError> {
-    std::str::from_utf8(bytes).map_err(|error| {
-        let before = &bytes[..error.valid_up_to()];
-        let line = 1 + before.iter().filter(|byte| **byte == b'\n').count();
-        TextError { line, field: "text".to_string(), problem: Problem::NotText }
-    })
+/// The first line as a heading, and the lines of the records. A first line that is no heading is a
+/// record where it reads like one.
+fn split<'a>(lines: &'a [Cut], faults: &mut Vec<TextError>) -> (Option<&'a Line>, &'a [Cut]) {
+    let no_heading = |line| {
+        let (field, problem) = ("heading".to_string(), Problem::NoHeading);
+        TextError { line, field, problem }
+    };
+    match lines.split_first() {
+        None => faults.push(no_heading(1)),
+        Some((Err(fault), rest)) => {
+            faults.push(fault.clone());
+            return (None, rest);
+        }
+        Some((first @ Ok(line), rest)) => {
+            if headed(first).is_some() {
+                return (Some(line), rest);
+            }
+            faults.push(no_heading(line.number));
+            return (None, if recorded(first).is_some() { lines } else { rest });
+        }
+    }
+    (None, lines)
+}
+
+fn contents(lines: &[Cut], faults: &mut Vec<TextError>) -> Option<Contents> {
+    let (first, rest) = split(lines, faults);
+    let number = first.map_or(1, |line| line.number);
+    match which(lines) {
+        Some(Which::Survey) => {
+            if let Some(line) = first {
+                faults.extend(line.strangers(&[]));
+            }
+            let read = |_, line: &Line, faults: &mut Vec<TextError>| member(line, faults);
+            Some(Contents::Survey(records((Which::Survey, number), rest, faults, read)))
+        }
+        Some(Which::Vehicle) => {
+            let words = first.map(|line| pair(line, &HEADING, faults));
+            let read = |place, line: &Line, faults: &mut Vec<TextError>| {
+                axle(line, if place == 0 { &FIRST_AXLE } else { &AXLE }, faults)
+            };
+            let axles = records((Which::Vehicle, number), rest, faults, read);
+            Some(Contents::Vehicle(Vehicle { heading: words?, axles }))
+        }
+        None => {
+            faults.extend(rest.iter().filter_map(|line| line.as_ref().err().cloned()));
+            None
+        }
+    }
 }
 
 /// Reads the text form of a survey or a vehicle.
 ///
 /// # Errors
-/// The first fault, by line and field.
-pub fn read(bytes: &[u8]) -> Result<Contents, TextError> {
-    let text = text_of(bytes)?;
-    let lines: Vec<Line> =
-        text.lines().zip(1..).filter_map(|(line, number)| Line::cut(number, line)).collect();
-    let field = "heading".to_string();
-    let Some((heading, rest)) = lines.split_first() else {
-        return Err(TextError { line: 1, field, problem: Problem::NoHeading });
-    };
-    match heading.head {
-        "survey" => {
-            heading.fill(&[], &mut [])?;
-            Ok(Contents::Survey(records(heading, rest, ("member", MOST_MEMBERS), member)?))
+/// All faults, by line and field, in the order of the lines.
+pub fn read(bytes: &[u8]) -> Result<Contents, Vec<TextError>> {
+    let mut faults = Vec::new();
+    match contents(&lines(bytes), &mut faults) {
+        Some(contents) if faults.is_empty() => Ok(contents),
+        _ => {
+            faults.sort_by_key(|fault| fault.line);
+            Err(faults)
         }
-        "vehicle" => {
-            let mut words = [0; 2];
-            heading.fill(&HEADING.each_ref(), &mut words)?;
-            let mut fields = &FIRST_AXLE;
-            let axles = records(heading, rest, ("axle", MOST_AXLES), |line| {
-                axle(line, std::mem::replace(&mut fields, &AXLE))
-            })?;
-            Ok(Contents::Vehicle(Vehicle { heading: words, axles }))
-        }
-        _ => Err(TextError { line: heading.number, field, problem: Problem::NoHeading }),
     }
 }

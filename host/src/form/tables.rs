@@ -1,47 +1,90 @@
-//! The fields of each kind of member, of each section, and of a vehicle, with their limits.
+//! The one place for what the files may hold: marks, versions and counts, the fields of each kind of
+//! member, of each section and of a vehicle, with their limits.
 
-use super::field::{number, words, Field};
+use super::field::{number, words, Field, Within};
+use crate::refusal::Which;
+
+/// What a file opens with, and its records.
+#[derive(Debug)]
+pub struct Layout {
+    /// The three letters.
+    pub mark: &'static [u8; 3],
+    /// The version that is written.
+    pub version: u16,
+    /// What a record is called.
+    pub record: &'static str,
+    /// So many records it holds.
+    pub most: usize,
+}
+
+impl Which {
+    /// The layout of this file.
+    pub fn layout(self) -> &'static Layout {
+        match self {
+            Which::Survey => &Layout { mark: b"TBR", version: 1, record: "member", most: 64 },
+            Which::Vehicle => &Layout { mark: b"TBV", version: 1, record: "axle", most: 16 },
+        }
+    }
+}
 
 /// A kind of member: its term, its number, and its fields, the section's own excepted.
+#[derive(Debug)]
 pub struct Kind {
+    /// The field's term for such a member.
     pub name: &'static str,
+    /// Its number in the file.
     pub code: u16,
+    /// A beam in bending has no lost area.
+    pub in_bending: bool,
+    /// Its fields, in the order in which they are written; the section is the last.
     pub fields: &'static [Field],
 }
 
 /// A section: its term, its code and its fields.
+#[derive(Debug)]
 pub struct Section {
+    /// Its term.
     pub name: &'static str,
+    /// Its code in the file.
     pub code: u16,
+    /// Its fields, in the order in which they are written.
     pub fields: &'static [Field],
 }
 
-const SPECIES: Field = words(
-    "species",
-    1,
-    &[
-        ("pine", 1),
-        ("spruce", 2),
-        ("larch", 3),
-        ("cedar", 4),
-        ("fir", 5),
-        ("oak", 6),
-        ("ash", 7),
-        ("maple", 7),
-        ("hornbeam", 7),
-        ("beech", 8),
-    ],
-);
+/// The words of a member by the letters of the layout.
+pub const MEMBER_LETTERS: [&str; 16] = [
+    "kind", "species", "l", "d", "x", "h", "q", "section", "s1", "s2", "s3", "s4", "s5", "s6", "A",
+    "B",
+];
+/// The word of the kind.
+pub const KIND_WORD: usize = 0;
+/// The word of the species.
+pub const SPECIES_WORD: usize = 1;
+
+/// The species, each with its number.
+pub const ALL_SPECIES: [(&str, u16); 10] = [
+    ("pine", 1),
+    ("spruce", 2),
+    ("larch", 3),
+    ("cedar", 4),
+    ("fir", 5),
+    ("oak", 6),
+    ("ash", 7),
+    ("maple", 7),
+    ("hornbeam", 7),
+    ("beech", 8),
+];
+const SPECIES: Field = words("species", SPECIES_WORD, &ALL_SPECIES);
 const SPAN: Field = number("span", 2, 100, 5000, "cm");
 const TRUSS_SPACING: Field = number("truss spacing", 2, 100, 5000, "cm");
 const SPACING: Field = number("spacing", 3, 10, 1000, "cm");
-/// Beside these limits it is below the span.
-const FROM_SUPPORT: Field = number("from support", 4, 1, 4999, "cm");
+const FROM_SUPPORT: Field = number("from support", 4, 1, 4999, "cm").within(Within::Below(&SPAN));
 const PANEL: Field = number("panel length", 4, 10, 1000, "cm");
 const TRUSS_HEIGHT: Field = number("truss height", 5, 10, 500, "cm");
 const DEAD_LOAD: Field = number("dead load", 6, 0, 10000, "kgf/m");
-/// A and B: the joint carries the part A of the whole B of the chord's force; A is at most B.
-const JOINT_PART: Field = number("joint part", 14, 1, 1000, "");
+/// A and B: the joint carries the part A of the whole B of the chord's force.
+const JOINT_PART: Field =
+    number("joint part", 14, 1, 1000, "").within(Within::AtMost(&CHORD_WHOLE));
 const CHORD_WHOLE: Field = number("chord whole", 15, 1, 1000, "");
 
 /// The word of the section code.
@@ -51,46 +94,46 @@ const OF_CHORD: Field = words("section", SECTION_WORD, &[("sawn", 2)]);
 const OF_DOWELS: Field = words("section", SECTION_WORD, &[("dowels", 3)]);
 const OF_AREA: Field = words("section", SECTION_WORD, &[("area", 4)]);
 
+/// The fields of a joint with this section. Species first: steel plates are without it.
+const fn joint(section: Field) -> [Field; 9] {
+    [
+        SPECIES,
+        SPAN,
+        SPACING,
+        FROM_SUPPORT,
+        TRUSS_HEIGHT,
+        DEAD_LOAD,
+        JOINT_PART,
+        CHORD_WHOLE,
+        section,
+    ]
+}
+const JOINT_IN_DOWELS: [Field; 9] = joint(OF_DOWELS);
+const JOINT_IN_AREA: [Field; 9] = joint(OF_AREA);
+
 /// The six kinds by number.
-pub const KINDS: [Kind; 6] = [
-    Kind { name: "stringer", code: 1, fields: &[SPECIES, SPAN, SPACING, DEAD_LOAD, IN_BENDING] },
+pub static KINDS: [Kind; 6] = [
+    Kind {
+        name: "stringer",
+        code: 1,
+        in_bending: true,
+        fields: &[SPECIES, SPAN, SPACING, DEAD_LOAD, IN_BENDING],
+    },
     Kind {
         name: "cross beam",
         code: 2,
+        in_bending: true,
         fields: &[SPECIES, TRUSS_SPACING, PANEL, DEAD_LOAD, IN_BENDING],
     },
     Kind {
         name: "chord",
         code: 3,
+        in_bending: false,
         fields: &[SPECIES, SPAN, SPACING, FROM_SUPPORT, TRUSS_HEIGHT, DEAD_LOAD, OF_CHORD],
     },
-    Kind { name: "dowelled joint", code: 4, fields: &OF_JOINT_IN_DOWELS },
-    Kind { name: "keyed joint", code: 5, fields: &OF_JOINT_IN_AREA },
-    Kind { name: "steel plates", code: 6, fields: OF_JOINT_IN_AREA.split_at(1).1 },
-];
-
-const OF_JOINT_IN_DOWELS: [Field; 9] = [
-    SPECIES,
-    SPAN,
-    SPACING,
-    FROM_SUPPORT,
-    TRUSS_HEIGHT,
-    DEAD_LOAD,
-    JOINT_PART,
-    CHORD_WHOLE,
-    OF_DOWELS,
-];
-/// Species first: steel plates are without it.
-const OF_JOINT_IN_AREA: [Field; 9] = [
-    SPECIES,
-    SPAN,
-    SPACING,
-    FROM_SUPPORT,
-    TRUSS_HEIGHT,
-    DEAD_LOAD,
-    JOINT_PART,
-    CHORD_WHOLE,
-    OF_AREA,
+    Kind { name: "dowelled joint", code: 4, in_bending: false, fields: &JOINT_IN_DOWELS },
+    Kind { name: "keyed joint", code: 5, in_bending: false, fields: &JOINT_IN_AREA },
+    Kind { name: "steel plates", code: 6, in_bending: false, fields: JOINT_IN_AREA.split_at(1).1 },
 ];
 
 const LOG: [Field; 3] = [
@@ -119,19 +162,35 @@ const AREA: [Field; 2] =
     [number("area", 8, 1, 10000, "cm2"), number("lost area", 9, 0, 10000, "cm2")];
 
 /// The four sections by code.
-pub const SECTIONS: [Section; 4] = [
+pub static SECTIONS: [Section; 4] = [
     Section { name: "log", code: 1, fields: &LOG },
     Section { name: "sawn", code: 2, fields: &SAWN },
     Section { name: "dowels", code: 3, fields: &DOWELS },
     Section { name: "area", code: 4, fields: &AREA },
 ];
 
+impl Kind {
+    /// The kind of this number.
+    pub fn of(code: u16) -> Option<&'static Kind> {
+        KINDS.iter().find(|kind| kind.code == code)
+    }
+
+    /// The field of its section.
+    pub fn section(&self) -> Option<&'static Field> {
+        self.fields.iter().find(|field| field.word == SECTION_WORD)
+    }
+}
+
 impl Section {
+    /// The section of this code.
+    pub fn of(code: u16) -> Option<&'static Section> {
+        SECTIONS.iter().find(|section| section.code == code)
+    }
+
     /// The section's fields in a member of this kind.
     pub fn fields_in(&self, kind: &Kind) -> &'static [Field] {
-        let bending = kind.code <= 2;
         match self.code {
-            2 if bending => SAWN.split_at(5).0,
+            2 if kind.in_bending => SAWN.split_at(5).0,
             _ => self.fields,
         }
     }
@@ -150,7 +209,3 @@ pub const FIRST_AXLE: [Field; 2] = [WEIGHT, number("distance", 1, 0, 0, "cm")];
 
 /// The others: the distance is from the axle in front.
 pub const AXLE: [Field; 2] = [WEIGHT, number("distance", 1, 1, 2000, "cm")];
-
-/// Most members of a survey and most axles of a vehicle.
-pub const MOST_MEMBERS: usize = 64;
-pub const MOST_AXLES: usize = 16;

@@ -4,57 +4,62 @@ use super::field::{Field, Value};
 use super::tables::*;
 use crate::file::{Contents, Member, Vehicle};
 
-/// A field with its value: name, value, unit.
-pub fn clause(field: &Field, words: &[u16]) -> String {
-    let found = words[field.word];
+/// A field with its value: name, value, unit. None where the record is too short for it, or where
+/// its number has no word.
+pub fn clause(field: &Field, words: &[u16]) -> Option<String> {
+    let found = field.of(words)?;
     match field.value {
         Value::Number(limits) => {
-            format!("{} {found} {}", field.name, limits.unit).trim_end().to_string()
+            Some(format!("{} {found} {}", field.name, limits.unit).trim_end().to_string())
         }
         Value::Word(all) => {
-            let word = all.iter().find(|(_, number)| *number == found);
-            format!("{} {}", field.name, word.map_or("unknown", |(word, _)| word))
+            let (word, _) = all.iter().find(|(_, number)| *number == found)?;
+            Some(format!("{} {word}", field.name))
         }
     }
 }
 
-/// The kind of a member that the library took.
-pub fn kind_of(words: &Member) -> &'static Kind {
-    KINDS.iter().find(|kind| kind.code == words[0]).expect("the library takes no other kind")
+/// The kind of a member, where there is one of its number.
+pub fn kind_of(words: &Member) -> Option<&'static Kind> {
+    Kind::of(words[KIND_WORD])
 }
 
-/// The section of a member that the library took.
-pub fn section_of(words: &Member) -> &'static Section {
-    let code = words[SECTION_WORD];
-    SECTIONS.iter().find(|section| section.code == code).expect("the library takes no other code")
+/// The section of a member, where there is one of its code.
+pub fn section_of(words: &Member) -> Option<&'static Section> {
+    Section::of(words[SECTION_WORD])
 }
 
-fn line<'a>(head: &str, fields: impl IntoIterator<Item = &'a Field>, words: &[u16]) -> String {
+fn line<'a>(
+    head: &str,
+    fields: impl IntoIterator<Item = &'a Field>,
+    words: &[u16],
+) -> Option<String> {
     let mut line = head.to_string();
     for field in fields {
         line.push_str(", ");
-        line.push_str(&clause(field, words));
+        line.push_str(&clause(field, words)?);
     }
     line.push('\n');
-    line
+    Some(line)
 }
 
-fn member(words: &Member) -> String {
-    let kind = kind_of(words);
-    let fields = kind.fields.iter().chain(section_of(words).fields_in(kind));
+fn member(words: &Member) -> Option<String> {
+    let kind = kind_of(words)?;
+    let fields = kind.fields.iter().chain(section_of(words)?.fields_in(kind));
     line(kind.name, fields, words)
 }
 
-fn vehicle(vehicle: &Vehicle) -> String {
+fn vehicle(vehicle: &Vehicle) -> Option<String> {
     let axles = vehicle.axles.iter().map(|words| line("axle", &AXLE, words));
-    line("vehicle", &HEADING, &vehicle.heading) + &axles.collect::<String>()
+    Some(line("vehicle", &HEADING, &vehicle.heading)? + &axles.collect::<Option<String>>()?)
 }
 
-/// The text form of a file that the library took.
-pub fn write(contents: &Contents) -> String {
+/// The text form of a file. None where a number has no word: the library takes no such file.
+pub fn write(contents: &Contents) -> Option<String> {
     match contents {
         Contents::Survey(members) => {
-            "survey\n".to_string() + &members.iter().map(member).collect::<String>()
+            let lines = members.iter().map(member).collect::<Option<String>>()?;
+            Some("survey\n".to_string() + &lines)
         }
         Contents::Vehicle(words) => vehicle(words),
     }

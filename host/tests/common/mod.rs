@@ -1,11 +1,8 @@
-//! What the tests share: seeds, the comparison with the reference, and the program `bridge`.
-#![allow(dead_code)]
+//! What the tests share: seeds, and the comparison with the reference.
+#![allow(dead_code, unused_imports)]
 
-use reference::{File, Refused};
-use std::path::Path;
-use std::process::Command;
-use std::sync::OnceLock;
-use tbr::{Judgement, Refusal, Which};
+use reference::{File, Judged, Rated, Refused};
+use tbr::{Judgement, MemberLoads, Refusal, Which};
 
 /// The seed of a test run: TBR_SEED (decimal) where that is set.
 pub fn seed(usual: u64) -> u64 {
@@ -15,34 +12,36 @@ pub fn seed(usual: u64) -> u64 {
     }
 }
 
-/// The library's answer in the reference's terms.
-pub fn library(survey: &[u8], vehicle: &[u8]) -> Result<(u64, u64, bool), Refused> {
-    let file = |which| match which {
+/// A refusal in the reference's terms.
+fn refused(Refusal { file, number, place }: Refusal) -> Refused {
+    let file = match file {
         Which::Survey => File::Survey,
         Which::Vehicle => File::Vehicle,
     };
-    match tbr::judge(survey, vehicle) {
-        Ok(Judgement { figure, governing, passes }) => Ok((figure, governing, passes)),
-        Err(Refusal { file: which, number, place }) => {
-            Err(Refused { file: file(which), number, place })
+    Refused { file, number, place }
+}
+
+/// A member's loads in the reference's terms; its place and its verdict are looked at here.
+fn rated(loads: &MemberLoads, place: u64) -> Rated {
+    let &MemberLoads { permitted, vehicle, .. } = loads;
+    let rated = Rated { permitted, vehicle };
+    assert_eq!((loads.place, loads.passes), (place, rated.passes()), "{loads:?}");
+    rated
+}
+
+/// The answers of both of the library's functions, in the reference's terms.
+pub fn library(survey: &[u8], vehicle: &[u8]) -> Result<Judged, Refused> {
+    let judged = tbr::judge(survey, vehicle).map_err(refused);
+    let loads = tbr::member_loads(survey, vehicle).map_err(refused);
+    match (judged, loads) {
+        (Ok(Judgement { figure, governing, passes }), Ok(loads)) => {
+            let members = loads.iter().zip(1..).map(|(loads, place)| rated(loads, place)).collect();
+            Ok(Judged { figure, governing, passes, members })
         }
+        (Err(refused), Err(other)) if refused == other => Err(refused),
+        (judged, loads) => panic!("one function refuses, the other not: {judged:?}, {loads:?}"),
     }
 }
 
-/// The reference's answer, without the members' loads.
-pub fn expected(survey: &[u8], vehicle: &[u8]) -> Result<(u64, u64, bool), Refused> {
-    reference::judge(survey, vehicle).map(|j| (j.figure, j.governing, j.passes))
-}
-
-/// The program is there, made by `rt check bridge` where it is missing.
-pub fn have_bridge() {
-    static MADE: OnceLock<()> = OnceLock::new();
-    MADE.get_or_init(|| {
-        if tbr::program::path().exists() {
-            return;
-        }
-        let root = Path::new(env!("CARGO_MANIFEST_DIR")).join("..");
-        let status = Command::new("rt").args(["check", "bridge"]).current_dir(root).status();
-        assert!(status.expect("rt cannot be run").success(), "rt check bridge failed");
-    });
-}
+/// The reference's answer.
+pub use reference::judge as expected;

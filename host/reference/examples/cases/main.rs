@@ -13,15 +13,31 @@ mod vehicle_faults;
 use script::Script;
 use std::path::PathBuf;
 
-fn main() -> std::io::Result<()> {
-    let folder = std::env::args().nth(1).expect("the folder of the crate cases");
+/// All cases, in the order of the script.
+fn script() -> Script {
     let mut script = Script::default();
     document::cases(&mut script);
     state::cases(&mut script);
     survey_faults::cases(&mut script);
     vehicle_faults::cases(&mut script);
     edges::cases(&mut script);
+    script
+}
+
+fn main() -> std::io::Result<()> {
+    let folder = std::env::args().nth(1).expect("the folder of the crate cases");
     let folder = PathBuf::from(folder);
+    let script = script();
     std::fs::write(folder.join("stdin"), &script.bytes)?;
     std::fs::write(folder.join("stdout"), &script.text)
+}
+
+/// The files of crates/cases are what this program writes, byte by byte.
+#[test]
+fn the_stored_script_is_this_one() {
+    let folder = PathBuf::from(concat!(env!("CARGO_MANIFEST_DIR"), "/../../crates/cases"));
+    let stored = |name| std::fs::read(folder.join(name)).expect("a stored file");
+    let script = script();
+    assert!(stored("stdin") == script.bytes, "crates/cases/stdin is another script");
+    assert!(stored("stdout") == script.text.as_bytes(), "crates/cases/stdout has other answers");
 }

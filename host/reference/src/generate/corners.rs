@@ -11,7 +11,7 @@ fn corners_of(kind: u16, code: u16) -> Vec<Words> {
         let mut words: Words = [0; 16];
         [words[KIND], words[SECTION]] = [kind, code];
         if has_species(kind) {
-            words[SPECIES] = (choice % 8) as u16 + 1;
+            words[SPECIES] = u16::try_from(choice % 8).expect("below 8") + 1;
         }
         for (i, &(word, least, greatest)) in limits.iter().enumerate() {
             words[word] = if choice >> i & 1 == 0 { least } else { greatest };

@@ -108,7 +108,7 @@ pub fn damage_survey(random: &mut Random, words: &mut Words, damage: SurveyDamag
 /// Damages a sound vehicle; the place of the fault comes back.
 pub fn damage_vehicle(random: &mut Random, words: &mut VehicleWords, damage: VehicleDamage) -> u64 {
     match damage {
-        VehicleDamage::Class => words.class = random.edgy(2, 255) as u8,
+        VehicleDamage::Class => words.class = random.edgy(2, 255).to_le_bytes()[0],
         VehicleDamage::Track => words.track = outside(random, 100, 300),
         VehicleDamage::Weight(i) => words.axles[i][0] = outside(random, 1, 60000),
         VehicleDamage::Distance(0) => words.axles[0][1] = outside(random, 0, 0),
@@ -131,7 +131,7 @@ fn spoil(random: &mut Random, bytes: &mut Vec<u8>) {
         way => {
             let end = if way == 2 { bytes.len().min(10) } else { bytes.len() };
             if end > 0 {
-                bytes[random.below(end)] = random.bits() as u8;
+                bytes[random.below(end)] = random.bits().to_le_bytes()[0];
             }
         }
     }

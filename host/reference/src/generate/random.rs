@@ -22,12 +22,14 @@ impl Random {
 
     /// A number from 0 to below `end`.
     pub fn below(&mut self, end: usize) -> usize {
-        (self.bits() % end as u64) as usize
+        let number = self.bits() % u64::try_from(end).expect("64 bits");
+        usize::try_from(number).expect("below a usize")
     }
 
     /// A number from `least` to `greatest`, all alike.
     pub fn between(&mut self, least: u16, greatest: u16) -> u16 {
-        least + self.below(usize::from(greatest - least) + 1) as u16
+        let above = self.below(usize::from(greatest - least) + 1);
+        least + u16::try_from(above).expect("at most the difference of two u16")
     }
 
     /// A number from `least` to `greatest`, the two edges and their neighbours often.

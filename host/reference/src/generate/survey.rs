@@ -78,7 +78,7 @@ pub fn full_survey(random: &mut Random, spread: Spread) -> Vec<Words> {
 /// The file of these members.
 pub fn survey_bytes(members: &[Words]) -> Vec<u8> {
     let mut bytes = b"TBR\x01\x00".to_vec();
-    bytes.push(members.len() as u8);
+    bytes.push(u8::try_from(members.len()).expect("a count of one byte"));
     bytes.extend(members.iter().flatten().flat_map(|word| word.to_le_bytes()));
     bytes
 }

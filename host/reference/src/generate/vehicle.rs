@@ -23,7 +23,7 @@ fn axle(random: &mut Random, spread: Spread, first: bool) -> AxleWords {
 
 /// A vehicle of so many axles.
 pub fn vehicle(random: &mut Random, spread: Spread, count: usize) -> VehicleWords {
-    let class = random.below(2) as u8;
+    let class = *random.pick(&[0, 1]);
     let track = random.edgy(100, 300);
     let axles = (0..count).map(|i| axle(random, spread, i == 0)).collect();
     VehicleWords { class, track, axles }
@@ -34,7 +34,7 @@ pub fn vehicle_bytes(vehicle: &VehicleWords) -> Vec<u8> {
     let mut bytes = b"TBV\x01\x00".to_vec();
     bytes.push(vehicle.class);
     bytes.extend(vehicle.track.to_le_bytes());
-    bytes.push(vehicle.axles.len() as u8);
+    bytes.push(u8::try_from(vehicle.axles.len()).expect("a count of one byte"));
     bytes.extend(vehicle.axles.iter().flatten().flat_map(|word| word.to_le_bytes()));
     bytes
 }

@@ -1,24 +1,60 @@
-//! `tbr judge`: the table of members and the verdict. Every load, figure and verdict is the proved
+//! `tbr judge`: a bridge under one vehicle or several. Every load, figure and verdict is the proved
 //! code's; only the share used is worked out here.
 
-use crate::explain::refused;
-use crate::{read, End};
-use std::fmt::Write;
-use tbr::file;
+use crate::arguments::Arguments;
+use crate::end::{End, Failure, Status};
+use crate::input::{read, shown, STANDARD};
+use crate::take::{either, internal, Taken};
+use crate::{check, csv, json, table};
+use std::ffi::{OsStr, OsString};
+use tbr::file::Contents;
 use tbr::form::kind_of;
-use tbr::program::{member_loads, MemberLoads};
-use tbr::{Judgement, Which};
+use tbr::{Judgement, MemberLoads, Refusal, Which};
 
-/// Whole percent of the permitted load that the vehicle takes, rounded up: above 100 just where
-/// the member is refused.
-fn share_used(member: &MemberLoads) -> String {
-    match member.permitted {
-        0 => "-".to_string(),
-        permitted => format!("{} %", (100 * member.vehicle).div_ceil(permitted)),
+/// A member: its kind's term and its loads.
+pub struct Row {
+    pub kind: &'static str,
+    pub loads: MemberLoads,
+}
+
+impl Row {
+    /// Whole percent of the permitted load that the vehicle takes, rounded up: above 100 just
+    /// where the member is refused. None where it may bear nothing.
+    pub fn share_used(&self) -> Option<u64> {
+        let MemberLoads { permitted, vehicle, .. } = self.loads;
+        let share = |permitted| (100 * u128::from(vehicle)).div_ceil(permitted);
+        (permitted != 0).then(|| u64::try_from(share(permitted.into())).ok()).flatten()
     }
 }
 
-fn verdict(passes: bool) -> &'static str {
+/// A bridge under a vehicle.
+pub struct Judged {
+    pub judgement: Judgement,
+    pub rows: Vec<Row>,
+}
+
+impl Judged {
+    /// The governing member's kind.
+    pub fn governing_kind(&self) -> &'static str {
+        let governs = |row: &&Row| row.loads.place == self.judgement.governing;
+        self.rows.iter().find(governs).map_or("", |row| row.kind)
+    }
+
+    /// The places of the members that refuse.
+    pub fn refusing(&self) -> Vec<u64> {
+        let refusing = self.rows.iter().filter(|row| !row.loads.passes);
+        refusing.map(|row| row.loads.place).collect()
+    }
+}
+
+/// What came of each vehicle, by its name; of none where the survey was not taken.
+pub struct Report {
+    pub survey: String,
+    pub vehicles: Vec<String>,
+    pub answers: Result<Vec<Result<Judged, Failure>>, Failure>,
+}
+
+pub fn verdict(passes: bool) -> &'static str {
     if passes {
         "pass"
     } else {
@@ -26,41 +62,65 @@ fn verdict(passes: bool) -> &'static str {
     }
 }
 
-fn table(members: &[MemberLoads], kinds: &[&str], judgement: &Judgement) -> String {
-    let mut text = String::new();
-    let heading = ["place", "member", "permitted kgf/m", "vehicle kgf/m", "used", "verdict"];
-    let [place, member, permitted, vehicle, used, word] = heading;
-    let _ = writeln!(
-        text,
-        "{place:>5}  {member:<14}  {permitted:>15}  {vehicle:>13}  {used:>8}  {word}"
-    );
-    for (loads, kind) in members.iter().zip(kinds) {
-        let MemberLoads { place, permitted, vehicle, passes } = loads;
-        let (used, word) = (share_used(loads), verdict(*passes));
-        let _ = writeln!(
-            text,
-            "{place:>5}  {kind:<14}  {permitted:>15}  {vehicle:>13}  {used:>8}  {word}"
-        );
-    }
-    let Judgement { figure, governing, passes } = judgement;
-    let kind = members.iter().zip(kinds).find(|(loads, _)| loads.place == *governing);
-    let kind = kind.map_or("", |(_, kind)| kind);
-    let _ = writeln!(text, "\nfigure     {figure} kgf/m");
-    let _ = writeln!(text, "governing  member {governing}, {kind}");
-    let _ = writeln!(text, "verdict    {}", verdict(*passes));
-    text
+/// The kinds of a survey's members, by name.
+fn kinds(survey: &Taken) -> Option<Vec<&'static str>> {
+    let Contents::Survey(members) = &survey.contents else { return None };
+    members.iter().map(|words| kind_of(words).map(|kind| kind.name)).collect()
 }
 
-pub fn judge(survey_path: &str, vehicle_path: &str) -> Result<End, End> {
-    let (survey, vehicle) = (read(survey_path)?, read(vehicle_path)?);
-    let judgement = tbr::judge(&survey, &vehicle).map_err(|refusal| match refusal.file {
-        Which::Survey => refused(survey_path, &survey, &refusal),
-        Which::Vehicle => refused(vehicle_path, &vehicle, &refusal),
-    })?;
-    let members = member_loads(&survey, &vehicle, &judgement)
-        .map_err(|error| End::Wrong(error.to_string()))?;
-    let records = file::members(&survey);
-    let kinds: Vec<&str> = records.iter().map(|words| kind_of(words).name).collect();
-    let text = table(&members, &kinds, &judgement);
-    Ok(if judgement.passes { End::Pass(text) } else { End::Refuse(text) })
+fn judged(survey: &Taken, name: &OsStr) -> Result<Judged, Failure> {
+    let input = read(name)?;
+    let wrong = |words: String| internal(&input.name, words);
+    let vehicle = either(&input, Which::Vehicle)?;
+    // Both files were taken before, each by itself.
+    let refused = |refusal: Refusal| wrong(refusal.to_string());
+    let judgement = tbr::judge(&survey.bytes, &vehicle.bytes).map_err(refused)?;
+    let loads = tbr::member_loads(&survey.bytes, &vehicle.bytes).map_err(refused)?;
+    let kinds = kinds(survey).ok_or_else(|| wrong("a kind without a name".to_string()))?;
+    check::fit(kinds.len(), &judgement, &loads).map_err(wrong)?;
+    let rows = kinds.into_iter().zip(loads).map(|(kind, loads)| Row { kind, loads }).collect();
+    Ok(Judged { judgement, rows })
+}
+
+fn report(survey: &OsStr, vehicles: &[OsString]) -> Report {
+    let taken = read(survey).and_then(|input| either(&input, Which::Survey));
+    Report {
+        survey: shown(survey),
+        vehicles: vehicles.iter().map(|name| shown(name)).collect(),
+        answers: taken.map(|survey| vehicles.iter().map(|name| judged(&survey, name)).collect()),
+    }
+}
+
+/// The worst that came of any file.
+fn status(report: &Report) -> Status {
+    let of_answer = |answer: &Result<Judged, Failure>| match answer {
+        Ok(judged) if judged.judgement.passes => Status::Pass,
+        Ok(_) => Status::Refuse,
+        Err(failure) => failure.status(),
+    };
+    match &report.answers {
+        Ok(answers) => answers.iter().map(of_answer).max().unwrap_or(Status::Pass),
+        Err(failure) => failure.status(),
+    }
+}
+
+/// The command, or what is wrong with its arguments.
+pub fn run(arguments: &Arguments) -> Result<End, String> {
+    let [survey, vehicles @ ..] = &arguments.operands[..] else {
+        return Err("a survey and a vehicle are needed".to_string());
+    };
+    if vehicles.is_empty() {
+        return Err("a vehicle is needed, behind the survey".to_string());
+    }
+    if arguments.operands.iter().filter(|name| *name == STANDARD).count() > 1 {
+        return Err("standard input can be read but once".to_string());
+    }
+    let report = report(survey, vehicles);
+    let (out, errors) = match (arguments.has("--csv"), arguments.has("--json")) {
+        (true, true) => return Err("--csv and --json do not go together".to_string()),
+        (true, false) => (csv::lines(&report), String::new()),
+        (false, true) => (json::line(&report), String::new()),
+        (false, false) => table::tables(&report),
+    };
+    Ok(End { status: status(&report), out: out.into_bytes(), errors })
 }

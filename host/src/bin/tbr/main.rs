@@ -1,58 +1,105 @@
 //! `tbr`: judge a bridge, show a file, make files from text. `tbr --help` says how.
 
-mod explain;
+mod arguments;
+mod check;
+mod csv;
+mod end;
+mod input;
+mod json;
 mod judge;
 mod make;
+mod output;
 mod show;
+mod table;
+mod take;
+mod value;
 
+use arguments::{quoted, Arguments};
+use end::{End, Status};
+use std::ffi::OsString;
 use std::io::Write;
 use std::process::ExitCode;
 
-const HELP: &str = include_str!("help.txt");
+const HELP: &str = include_str!("help/tbr.txt");
 
-/// How a command ends.
-pub enum End {
-    /// Done, or the bridge passes: status 0.
-    Pass(String),
-    /// The bridge is refused: status 1.
-    Refuse(String),
-    /// A file or a text form is refused: status 2.
-    RefusedFile(String),
-    /// Wrong use, or something cannot be read, written or run: status 3.
-    Wrong(String),
+/// A command: its name, its page of help, its options, and what runs it.
+struct Command {
+    name: &'static str,
+    help: &'static str,
+    options: &'static [&'static str],
+    run: fn(&Arguments) -> Result<End, String>,
 }
 
-/// A file's bytes.
-pub fn read(path: &str) -> Result<Vec<u8>, End> {
-    std::fs::read(path).map_err(|error| End::Wrong(format!("cannot read {path}: {error}")))
+const COMMANDS: [Command; 3] = [
+    Command {
+        name: "judge",
+        help: include_str!("help/judge.txt"),
+        options: &["--csv", "--json"],
+        run: judge::run,
+    },
+    Command { name: "show", help: include_str!("help/show.txt"), options: &[], run: show::run },
+    Command {
+        name: "make",
+        help: include_str!("help/make.txt"),
+        options: &["--back", "--force"],
+        run: make::run,
+    },
+];
+
+/// Wrong use, in one line, and the command that says how.
+fn wrong_use(words: &str, help: &str) -> End {
+    let errors = format!("tbr: {words}; '{help}' says how\n");
+    End { status: Status::Wrong, out: Vec::new(), errors }
 }
 
-fn run(words: &[&str]) -> Result<End, End> {
-    match words {
-        ["judge", survey, vehicle] => judge::judge(survey, vehicle),
-        ["show", file] => show::show(file),
-        ["make", "--back", file] => make::back(file, None),
-        ["make", "--back", file, text] => make::back(file, Some(text)),
-        ["make", text, file] => make::make(text, file),
-        ["--help" | "-h" | "help"] => Ok(End::Pass(HELP.to_string())),
-        [] => Err(End::Wrong(format!("nothing to do\n\n{HELP}"))),
-        _ => Err(End::Wrong(format!("not understood: {}\n\n{HELP}", words.join(" ")))),
+fn is_help(word: &OsString) -> bool {
+    word == "--help" || word == "-h"
+}
+
+fn run_command(command: &Command, words: &[OsString]) -> End {
+    let before_names = words.split(|word| word == "--").next().unwrap_or_default();
+    if before_names.iter().any(is_help) {
+        return End::done(command.help);
+    }
+    let done = Arguments::new(words, command.options).and_then(|words| (command.run)(&words));
+    let name = command.name;
+    done.unwrap_or_else(|words| {
+        wrong_use(&format!("{name}: {words}"), &format!("tbr {name} --help"))
+    })
+}
+
+fn run(words: &[OsString]) -> End {
+    let Some((first, rest)) = words.split_first() else {
+        return wrong_use("nothing to do", "tbr --help");
+    };
+    let named = |word: &OsString| COMMANDS.iter().find(|command| word == command.name);
+    if let Some(command) = named(first) {
+        return run_command(command, rest);
+    }
+    match first.to_str() {
+        Some("help") => {
+            End::done(rest.first().and_then(named).map_or(HELP, |command| command.help))
+        }
+        Some("--help" | "-h") => End::done(HELP),
+        Some("--version" | "-V") => End::done(concat!("tbr ", env!("CARGO_PKG_VERSION"), "\n")),
+        _ => wrong_use(&format!("there is no command {}", quoted(first)), "tbr --help"),
+    }
+}
+
+/// What a command printed goes out; where standard output does not take it, that is said.
+fn print(End { mut status, out, mut errors }: End) -> Status {
+    let mut stdout = std::io::stdout();
+    if let Err(error) = stdout.write_all(&out).and_then(|()| stdout.flush()) {
+        errors += &format!("tbr: standard output: cannot be written: {error}\n");
+        status = status.max(Status::Wrong);
+    }
+    match std::io::stderr().write_all(errors.as_bytes()) {
+        Ok(()) => status,
+        Err(_) => status.max(Status::Wrong),
     }
 }
 
 fn main() -> ExitCode {
-    let words: Vec<String> =
-        std::env::args_os().skip(1).map(|word| word.to_string_lossy().into_owned()).collect();
-    let words: Vec<&str> = words.iter().map(String::as_str).collect();
-    let (status, text, wrong) = match run(&words).unwrap_or_else(|end| end) {
-        End::Pass(text) => (0, text, false),
-        End::Refuse(text) => (1, text, false),
-        End::RefusedFile(text) => (2, format!("tbr: {text}\n"), true),
-        End::Wrong(text) => (3, format!("tbr: {text}\n"), true),
-    };
-    let written = match wrong {
-        false => std::io::stdout().write_all(text.as_bytes()),
-        true => std::io::stderr().write_all(text.as_bytes()),
-    };
-    ExitCode::from(if written.is_ok() { status } else { 3 })
+    let words: Vec<OsString> = std::env::args_os().skip(1).collect();
+    ExitCode::from(print(run(&words)).number())
 }

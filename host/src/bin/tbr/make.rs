@@ -1,49 +1,44 @@
 //! `tbr make`: text form to file and back. What is made is held to the proved library first.
 
-use crate::explain::refused;
-use crate::{read, End};
-use tbr::file::{self, Contents, SURVEY_MARK, VEHICLE_MARK};
-use tbr::{check_survey, check_vehicle, form};
+use crate::arguments::Arguments;
+use crate::end::{End, Failure};
+use crate::input::{read, STANDARD};
+use crate::output::Output;
+use crate::take::{self, internal, summary};
+use std::ffi::OsStr;
+use tbr::form;
 
-/// What a file holds, where the library takes it.
-pub fn contents(path: &str, bytes: &[u8]) -> Result<Contents, End> {
-    let refused = |refusal| refused(path, bytes, &refusal);
-    if bytes.starts_with(SURVEY_MARK) {
-        check_survey(bytes).map_err(refused)?;
-        return Ok(Contents::Survey(file::members(bytes)));
-    }
-    if bytes.starts_with(VEHICLE_MARK) {
-        check_vehicle(bytes).map_err(refused)?;
-        return Ok(Contents::Vehicle(file::vehicle(bytes)));
-    }
-    Err(End::RefusedFile(format!("{path}: neither a survey (TBR) nor a vehicle (TBV)")))
+fn make(text: &OsStr, name: &OsStr, force: bool) -> Result<End, Failure> {
+    let input = read(text)?;
+    let made = take::text(&input)?;
+    let output = Output { name, holds: made.contents.which(), force };
+    Ok(match output.write(made.bytes, &input)? {
+        Some(bytes) => End::done(bytes),
+        None => End::done(format!("{}: {}\n", output.shown(), summary(&made.contents))),
+    })
 }
 
-fn write(path: &str, bytes: &[u8]) -> Result<(), End> {
-    std::fs::write(path, bytes).map_err(|error| End::Wrong(format!("cannot write {path}: {error}")))
+fn back(file: &OsStr, name: &OsStr, force: bool) -> Result<End, Failure> {
+    let input = read(file)?;
+    let contents = take::file(&input)?.contents;
+    let text = form::write(&contents)
+        .ok_or_else(|| internal(&input.name, "the library takes a number without a word"))?;
+    let output = Output { name, holds: contents.which(), force };
+    Ok(match output.write(text.into_bytes(), &input)? {
+        Some(bytes) => End::done(bytes),
+        None => End::done(format!("{}: written\n", output.shown())),
+    })
 }
 
-/// In a few words.
-pub fn summary(contents: &Contents) -> String {
-    let (what, count, one) = match contents {
-        Contents::Survey(members) => ("survey", members.len(), "member"),
-        Contents::Vehicle(vehicle) => ("vehicle", vehicle.axles.len(), "axle"),
+/// The command, or what is wrong with its arguments.
+pub fn run(arguments: &Arguments) -> Result<End, String> {
+    let force = arguments.has("--force");
+    let done = match (arguments.has("--back"), &arguments.operands[..]) {
+        (false, [text, file]) => make(text, file, force),
+        (true, [file]) => back(file, OsStr::new(STANDARD), force),
+        (true, [file, text]) => back(file, text, force),
+        (false, _) => return Err("a text form and the file to make of it are needed".to_string()),
+        (true, _) => return Err("a file is needed, and at most one text form".to_string()),
     };
-    format!("{what} of {count} {one}{}", if count == 1 { "" } else { "s" })
-}
-
-pub fn make(text: &str, path: &str) -> Result<End, End> {
-    let made =
-        form::read(&read(text)?).map_err(|error| End::RefusedFile(format!("{text}: {error}")))?;
-    let bytes = made.bytes();
-    contents(path, &bytes)?;
-    write(path, &bytes)?;
-    Ok(End::Pass(format!("{path}: {}\n", summary(&made))))
-}
-
-pub fn back(path: &str, text: Option<&str>) -> Result<End, End> {
-    let form = form::write(&contents(path, &read(path)?)?);
-    let Some(text) = text else { return Ok(End::Pass(form)) };
-    write(text, form.as_bytes())?;
-    Ok(End::Pass(format!("{text}: written\n")))
+    Ok(done.unwrap_or_else(End::from))
 }

@@ -1,40 +1,57 @@
 //! `tbr show`: a file in words and units.
 
-use crate::make::{contents, summary};
-use crate::{read, End};
-use std::fmt::Write;
+use crate::arguments::Arguments;
+use crate::end::{End, Failure};
+use crate::input::read;
+use crate::take::{self, internal, summary};
+use std::ffi::OsStr;
 use tbr::file::{Contents, Member};
 use tbr::form::{clause, kind_of, section_of, Field, AXLE, HEADING};
 
-fn clauses(fields: &[Field], words: &[u16]) -> String {
-    let all: Vec<String> = fields.iter().map(|field| clause(field, words)).collect();
-    all.join(", ")
+fn clauses(fields: &[Field], words: &[u16]) -> Option<String> {
+    let all: Option<Vec<String>> = fields.iter().map(|field| clause(field, words)).collect();
+    Some(all?.join(", "))
 }
 
 /// The kind, its fields, and the section's on a line of their own.
-fn member(text: &mut String, place: usize, words: &Member) {
-    let kind = kind_of(words);
-    let (section, others) = kind.fields.split_last().expect("every kind has fields");
-    let _ = writeln!(text, "{place:>3}  {}: {}", kind.name, clauses(others, words));
-    let fields = section_of(words).fields_in(kind);
-    let _ = writeln!(text, "     {}: {}", clause(section, words), clauses(fields, words));
+fn member(place: usize, words: &Member) -> Option<String> {
+    let kind = kind_of(words)?;
+    let (section, others) = kind.fields.split_last()?;
+    let fields = section_of(words)?.fields_in(kind);
+    let (kind, others) = (kind.name, clauses(others, words)?);
+    let (section, fields) = (clause(section, words)?, clauses(fields, words)?);
+    Some(format!("{place:>3}  {kind}: {others}\n     {section}: {fields}\n"))
 }
 
-pub fn show(path: &str) -> Result<End, End> {
-    let contents = contents(path, &read(path)?)?;
-    let mut text = format!("{path}: {}\n", summary(&contents));
-    match &contents {
+fn axle(place: usize, words: &[u16]) -> Option<String> {
+    Some(format!("{place:>3}  axle: {}\n", clauses(&AXLE, words)?))
+}
+
+fn lines(contents: &Contents) -> Option<String> {
+    match contents {
         Contents::Survey(members) => {
-            for (words, place) in members.iter().zip(1..) {
-                member(&mut text, place, words);
-            }
+            members.iter().zip(1..).map(|(words, place)| member(place, words)).collect()
         }
         Contents::Vehicle(vehicle) => {
-            let _ = writeln!(text, "     {}", clauses(&HEADING, &vehicle.heading));
-            for (words, place) in vehicle.axles.iter().zip(1..) {
-                let _ = writeln!(text, "{place:>3}  axle: {}", clauses(&AXLE, words));
-            }
+            let heading = format!("     {}\n", clauses(&HEADING, &vehicle.heading)?);
+            let axles = vehicle.axles.iter().zip(1..).map(|(words, place)| axle(place, words));
+            Some(heading + &axles.collect::<Option<String>>()?)
         }
     }
-    Ok(End::Pass(text))
+}
+
+fn show(name: &OsStr) -> Result<End, Failure> {
+    let input = read(name)?;
+    let contents = take::file(&input)?.contents;
+    let lines = lines(&contents)
+        .ok_or_else(|| internal(&input.name, "the library takes a number without a word"))?;
+    Ok(End::done(format!("{}: {}\n{lines}", input.name, summary(&contents))))
+}
+
+/// The command, or what is wrong with its arguments.
+pub fn run(arguments: &Arguments) -> Result<End, String> {
+    match &arguments.operands[..] {
+        [name] => Ok(show(name).unwrap_or_else(End::from)),
+        _ => Err("one file is needed".to_string()),
+    }
 }

@@ -1,0 +1,32 @@
+//! Do the answers fit together? What does not is never shown.
+
+use tbr::Judgement;
+use tbr::MemberLoads;
+
+/// Holds the judgement of a bridge to the loads of its members, of which there are `count`. Both
+/// are the proved code's, from two calls: a difference is a fault of the program, in words.
+pub fn fit(count: usize, judgement: &Judgement, members: &[MemberLoads]) -> Result<(), String> {
+    let Judgement { figure, governing, passes } = *judgement;
+    let differ = |what: &str| Err(format!("the judgement and the members' loads differ in {what}"));
+    if members.len() != count {
+        return differ("the number of members");
+    }
+    if !members.iter().zip(1..).all(|(member, place)| member.place == place) {
+        return differ("the members' places");
+    }
+    if members.iter().any(|member| member.passes != (member.vehicle <= member.permitted)) {
+        return differ("a member's verdict");
+    }
+    let least = members.iter().map(|member| member.permitted).min();
+    if least != Some(figure) {
+        return differ("the figure");
+    }
+    let first = members.iter().find(|member| member.permitted == figure);
+    if first.map(|member| member.place) != Some(governing) {
+        return differ("the governing member");
+    }
+    if passes != members.iter().all(|member| member.passes) {
+        return differ("the verdict");
+    }
+    Ok(())
+}

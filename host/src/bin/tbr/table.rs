@@ -1,0 +1,56 @@
+//! The judgement as people read it: a table for each vehicle, and what was refused.
+
+use crate::judge::{verdict, Judged, Report, Row};
+use tbr::MemberLoads;
+
+fn line([place, member, permitted, vehicle, used, verdict]: [&str; 6]) -> String {
+    format!("{place:>5}  {member:<14}  {permitted:>15}  {vehicle:>13}  {used:>8}  {verdict}\n")
+}
+
+fn row(row: &Row) -> String {
+    let MemberLoads { place, permitted, vehicle, passes } = row.loads;
+    let used = row.share_used().map_or("-".to_string(), |share| format!("{share} %"));
+    let [place, permitted, vehicle] = [place, permitted, vehicle].map(|n| n.to_string());
+    line([&place, row.kind, &permitted, &vehicle, &used, verdict(passes)])
+}
+
+/// The members that refuse, by place; nothing where none does.
+fn by_whom(refusing: &[u64]) -> String {
+    let places: Vec<String> = refusing.iter().map(u64::to_string).collect();
+    match &places[..] {
+        [] => String::new(),
+        [place] => format!(": member {place}"),
+        [places @ .., last] => format!(": members {} and {last}", places.join(", ")),
+    }
+}
+
+fn table(judged: &Judged) -> String {
+    let heading = ["place", "member", "permitted kgf/m", "vehicle kgf/m", "used", "verdict"];
+    let rows: String = judged.rows.iter().map(row).collect();
+    let (judgement, kind) = (&judged.judgement, judged.governing_kind());
+    let (word, whom) = (verdict(judgement.passes), by_whom(&judged.refusing()));
+    format!(
+        "{}{rows}\nfigure     {} kgf/m\ngoverning  member {}, {kind}\nverdict    {word}{whom}\n",
+        line(heading),
+        judgement.figure,
+        judgement.governing,
+    )
+}
+
+/// The tables, each under its vehicle's name where there are several, and the lines for standard
+/// error.
+pub fn tables(report: &Report) -> (String, String) {
+    let answers = match &report.answers {
+        Ok(answers) => answers,
+        Err(failure) => return (String::new(), failure.lines()),
+    };
+    let (mut tables, mut errors) = (Vec::new(), String::new());
+    for (answer, vehicle) in answers.iter().zip(&report.vehicles) {
+        match answer {
+            Ok(judged) if answers.len() == 1 => tables.push(table(judged)),
+            Ok(judged) => tables.push(format!("{vehicle}\n{}", table(judged))),
+            Err(failure) => errors += &failure.lines(),
+        }
+    }
+    (tables.join("\n"), errors)
+}

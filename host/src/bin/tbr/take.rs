@@ -1,0 +1,128 @@
+//! From what was read to a file that the library takes.
+
+use crate::end::{Cause, Failure, Status};
+use crate::input::Input;
+use tbr::file::{self, Contents};
+use tbr::form::{self, look, Look, MEMBER_LETTERS};
+use tbr::{check_survey, check_vehicle, Refusal, Which};
+
+/// A file that the library takes.
+pub struct Taken {
+    pub bytes: Vec<u8>,
+    pub contents: Contents,
+}
+
+fn check(bytes: &[u8], which: Which) -> Result<(), Refusal> {
+    match which {
+        Which::Survey => check_survey(bytes),
+        Which::Vehicle => check_vehicle(bytes),
+    }
+}
+
+/// The numbers that the refusal is about; none for a file whose length, mark or count is wrong.
+fn record(bytes: &[u8], refusal: &Refusal) -> Option<Vec<(&'static str, u16)>> {
+    let Refusal { file, number, place } = *refusal;
+    if number < 4 {
+        return None;
+    }
+    let at = usize::try_from(place).ok()?.checked_sub(1);
+    let named = |names: &[&'static str], words: &[u16]| {
+        Some(names.iter().copied().zip(words.iter().copied()).collect())
+    };
+    match (file, at) {
+        (Which::Survey, at) => named(&MEMBER_LETTERS, file::members(bytes).get(at?)?),
+        (Which::Vehicle, None) => named(&["class", "track"], &file::vehicle(bytes)?.heading),
+        (Which::Vehicle, Some(at)) => {
+            named(&["weight", "distance"], file::vehicle(bytes)?.axles.get(at)?)
+        }
+    }
+}
+
+/// The refusal of these bytes, with the fields at fault.
+fn refused(name: &str, bytes: &[u8], refusal: Refusal) -> Failure {
+    let faults = form::explain(bytes, &refusal);
+    let record = record(bytes, &refusal).unwrap_or_default();
+    let cause = Cause::Refused { refusal, faults, record };
+    Failure { file: name.to_string(), cause, hint: None }
+}
+
+/// The file of these bytes.
+fn from_file(input: &Input, which: Which) -> Result<Taken, Failure> {
+    let Input { name, bytes, .. } = input;
+    check(bytes, which).map_err(|refusal| refused(name, bytes, refusal))?;
+    let contents = match which {
+        Which::Survey => Some(Contents::Survey(file::members(bytes))),
+        Which::Vehicle => file::vehicle(bytes).map(Contents::Vehicle),
+    };
+    match contents {
+        Some(contents) => Ok(Taken { bytes: bytes.clone(), contents }),
+        None => Err(internal(name, "the library takes a file without a header")),
+    }
+}
+
+/// Answers that do not fit together.
+pub fn internal(name: &str, words: impl std::fmt::Display) -> Failure {
+    Failure::other(Status::Internal, name, format!("internal error, nothing is judged: {words}"))
+}
+
+fn from_text(input: &Input) -> Result<Taken, Failure> {
+    let Input { name, bytes, .. } = input;
+    let contents = form::read(bytes).map_err(|faults| {
+        let (file, cause) = (name.clone(), Cause::Text(faults));
+        Failure { file, cause, hint: None }
+    })?;
+    let made = contents.bytes().ok_or_else(|| internal(name, "the text form makes no file"))?;
+    match check(&made, contents.which()) {
+        Ok(()) => Ok(Taken { bytes: made, contents }),
+        Err(refusal) => Err(internal(name, format!("the text form is taken, but: {refusal}"))),
+    }
+}
+
+/// For `judge`: the file wanted, or its text form.
+pub fn either(input: &Input, wanted: Which) -> Result<Taken, Failure> {
+    let order =
+        |which| format!("{} is a {which}; the order is: tbr judge SURVEY VEHICLE..", input.name);
+    match look(&input.bytes) {
+        Look::File(which) if which != wanted => {
+            from_file(input, wanted).map_err(|failure| failure.hint(order(which)))
+        }
+        Look::Text(which) if which != wanted => {
+            let words = format!("the text form of a {which}, not of a {wanted}");
+            Err(Failure::other(Status::RefusedFile, &input.name, words).hint(order(which)))
+        }
+        Look::Text(_) | Look::OtherText => from_text(input),
+        Look::File(_) | Look::Other => from_file(input, wanted),
+    }
+}
+
+/// For `show` and `make --back`: a file of either sort, but no text form.
+pub fn file(input: &Input) -> Result<Taken, Failure> {
+    let refused = |words| Failure::other(Status::RefusedFile, &input.name, words);
+    match look(&input.bytes) {
+        Look::File(which) => from_file(input, which),
+        Look::Text(which) => Err(refused(format!("the text form of a {which}, not a file"))
+            .hint(format!("'tbr make {} FILE' makes the file of it", input.name))),
+        Look::OtherText | Look::Other => {
+            Err(refused("neither a survey (TBR) nor a vehicle (TBV)".to_string()))
+        }
+    }
+}
+
+/// For `make`: a text form of either sort, but no file.
+pub fn text(input: &Input) -> Result<Taken, Failure> {
+    match look(&input.bytes) {
+        Look::File(which) => {
+            let words = format!("a {which} file, not a text form");
+            let hint = format!("'tbr make --back {} TEXT' writes its text form", input.name);
+            Err(Failure::other(Status::RefusedFile, &input.name, words).hint(hint))
+        }
+        Look::Text(_) | Look::OtherText | Look::Other => from_text(input),
+    }
+}
+
+/// In a few words.
+pub fn summary(contents: &Contents) -> String {
+    let (which, count) = (contents.which(), contents.count());
+    let record = which.layout().record;
+    format!("{which} of {count} {record}{}", if count == 1 { "" } else { "s" })
+}

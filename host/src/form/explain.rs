@@ -1,0 +1,110 @@
+//! A refused record of a file, field by field: which number is at fault, and what it may be.
+
+use super::error::{FieldFault, Problem};
+use super::field::Field;
+use super::tables::*;
+use super::write::section_of;
+use crate::file::{self, Member};
+use crate::refusal::{Refusal, Which};
+
+/// The name of a member's field with the letter of the layout.
+fn named(field: &Field) -> String {
+    match MEMBER_LETTERS.get(field.word) {
+        Some(letter) if *letter != field.name => format!("{} ({letter})", field.name),
+        _ => field.name.to_string(),
+    }
+}
+
+/// What is wrong with these fields of a record, each alone and beside another.
+fn wrong<'a>(
+    fields: impl IntoIterator<Item = &'a Field>,
+    words: &[u16],
+    name: impl Fn(&Field) -> String,
+) -> Vec<FieldFault> {
+    let problem = |field: &Field| field.problem(field.of(words)?).or_else(|| field.misfit(words));
+    let fault =
+        |field: &'a Field| Some(FieldFault { field: name(field), problem: problem(field)? });
+    fields.into_iter().filter_map(fault).collect()
+}
+
+/// Why nothing uses a word of a member.
+fn why_unused(kind: &Kind, section: &Section, word: usize) -> String {
+    if section.fields.iter().any(|field| field.word == word) {
+        return "a beam in bending has no lost area".to_string();
+    }
+    let of_section = SECTIONS.iter().flat_map(|section| section.fields);
+    match of_section.into_iter().any(|field| field.word == word) {
+        true => format!("the section '{}' does not use it", section.name),
+        false => format!("the kind '{}' does not use it", kind.name),
+    }
+}
+
+/// The words that nothing uses and that are not 0.
+fn unused(kind: &Kind, section: &Section, words: &Member) -> Vec<FieldFault> {
+    let used = |word| {
+        let mut fields = kind.fields.iter().chain(section.fields_in(kind));
+        word == KIND_WORD || fields.any(|field| field.word == word)
+    };
+    let named = |word| match section.fields.iter().find(|field| field.word == word) {
+        Some(field) => named(field),
+        None => MEMBER_LETTERS[word].to_string(),
+    };
+    let fault = |(word, found): (usize, &u16)| FieldFault {
+        field: named(word),
+        problem: Problem::Unused { found: *found, why: why_unused(kind, section, word) },
+    };
+    words
+        .iter()
+        .enumerate()
+        .filter(|(word, found)| !used(*word) && **found != 0)
+        .map(fault)
+        .collect()
+}
+
+/// The fields of a member that its refusal is about.
+fn member(words: &Member, number: u64) -> Option<Vec<FieldFault>> {
+    let found = words[KIND_WORD];
+    let Some(kind) = Kind::of(found) else {
+        let allowed = KINDS.iter().map(|kind| (kind.name, kind.code)).collect();
+        let problem = Problem::NoCode { found, allowed };
+        return Some(vec![FieldFault { field: "kind".to_string(), problem }]);
+    };
+    let of_word = |word| kind.fields.iter().filter(move |field| field.word == word);
+    match number {
+        5 => Some(wrong(of_word(SPECIES_WORD), words, named)),
+        6 => Some(wrong(of_word(SECTION_WORD), words, named)),
+        7 => {
+            let fields = kind.fields.iter().chain(section_of(words)?.fields_in(kind));
+            Some(wrong(fields, words, named))
+        }
+        8 => Some(unused(kind, section_of(words)?, words)),
+        _ => None,
+    }
+}
+
+/// The fields of a vehicle's heading (place 0) or of an axle that its refusal is about.
+fn vehicle(bytes: &[u8], place: usize) -> Option<Vec<FieldFault>> {
+    let vehicle = file::vehicle(bytes)?;
+    let name = |field: &Field| field.name.to_string();
+    Some(match place {
+        0 => wrong(&HEADING, &vehicle.heading, name),
+        1 => wrong(&FIRST_AXLE, vehicle.axles.first()?, name),
+        _ => wrong(&AXLE, vehicle.axles.get(place - 1)?, name),
+    })
+}
+
+/// The fields that the refusal of this file, by one of the numbers 4 to 8, is about: each with its
+/// value and what it may be. None where the refusal is about no record, or not of these bytes.
+pub fn explain(bytes: &[u8], refusal: &Refusal) -> Vec<FieldFault> {
+    let Refusal { file, number, place } = *refusal;
+    let Ok(place) = usize::try_from(place) else { return Vec::new() };
+    let faults = match (file, number) {
+        (Which::Survey, 4..=8) => {
+            let at = place.checked_sub(1);
+            at.and_then(|at| member(file::members(bytes).get(at)?, number))
+        }
+        (Which::Vehicle, 7) => vehicle(bytes, place),
+        _ => None,
+    };
+    faults.unwrap_or_default()
+}

@@ -1,0 +1,84 @@
+//! The check that stands before everything `tbr judge` shows: answers that do not fit together.
+
+#[path = "../src/bin/tbr/check.rs"]
+mod check;
+
+use check::fit;
+use tbr::Judgement;
+use tbr::MemberLoads;
+
+/// Three members; the second governs, the third has as small a permitted load and refuses.
+fn right() -> (Judgement, Vec<MemberLoads>) {
+    let loads = |place, permitted, vehicle| MemberLoads {
+        place,
+        permitted,
+        vehicle,
+        passes: vehicle <= permitted,
+    };
+    let judgement = Judgement { figure: 900, governing: 2, passes: false };
+    (judgement, vec![loads(1, 1720, 1720), loads(2, 900, 800), loads(3, 900, 901)])
+}
+
+/// What is said of the right answers with one thing changed.
+fn said(change: impl Fn(&mut Judgement, &mut Vec<MemberLoads>)) -> String {
+    let (mut judgement, mut members) = right();
+    change(&mut judgement, &mut members);
+    fit(3, &judgement, &members).unwrap_err()
+}
+
+#[test]
+fn right_answers_fit() {
+    let (judgement, members) = right();
+    assert_eq!(fit(3, &judgement, &members), Ok(()));
+    let passing = Judgement { figure: 900, governing: 2, passes: true };
+    assert_eq!(fit(2, &passing, &members[..2]), Ok(()));
+}
+
+#[test]
+fn the_number_of_members() {
+    assert!(said(|_, members| members.truncate(2)).ends_with("the number of members"));
+    assert!(said(|_, members| members.push(members[0])).ends_with("the number of members"));
+    let nothing = Judgement { figure: 0, governing: 0, passes: true };
+    assert!(fit(0, &nothing, &[]).is_err(), "a bridge without members has no figure");
+}
+
+#[test]
+fn the_places() {
+    assert!(said(|_, members| members.swap(0, 1)).ends_with("the members' places"));
+    assert!(said(|_, members| members[2].place = 2).ends_with("the members' places"));
+    assert!(said(|_, members| members[0].place = 0).ends_with("the members' places"));
+}
+
+#[test]
+fn the_members_verdicts() {
+    for place in 0..3 {
+        let words = said(|_, members| members[place].passes = !members[place].passes);
+        assert!(words.ends_with("a member's verdict"), "{words}");
+    }
+    // At the limit a member passes, one above it does not.
+    assert!(said(|_, members| members[0].vehicle += 1).ends_with("a member's verdict"));
+}
+
+#[test]
+fn the_figure() {
+    for figure in [0, 899, 901, 1720] {
+        assert!(said(|judgement, _| judgement.figure = figure).ends_with("the figure"));
+    }
+    assert!(said(|_, members| members[1].permitted = 850).ends_with("the figure"));
+}
+
+/// The first that has the figure, and no other.
+#[test]
+fn the_governing_member() {
+    for governing in [0, 1, 3, 4] {
+        let words = said(|judgement, _| judgement.governing = governing);
+        assert!(words.ends_with("the governing member"), "{words}");
+    }
+}
+
+#[test]
+fn the_verdict() {
+    assert!(said(|judgement, _| judgement.passes = true).ends_with("the verdict"));
+    let words = said(|_, members| (members[2].vehicle, members[2].passes) = (900, true));
+    assert!(words.ends_with("the verdict"), "{words}");
+}
