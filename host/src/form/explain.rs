@@ -3,7 +3,7 @@
 use super::error::{FieldFault, Problem};
 use super::field::Field;
 use super::tables::*;
-use super::write::section_of;
+use super::write::{kind_of, section_of};
 use crate::file::{self, Member};
 use crate::refusal::{Refusal, Which};
 
@@ -61,13 +61,15 @@ fn unused(kind: &Kind, section: &Section, words: &Member) -> Vec<FieldFault> {
         .collect()
 }
 
+fn no_kind(found: u16) -> FieldFault {
+    let allowed = KINDS.iter().map(|kind| (kind.name, kind.code)).collect();
+    FieldFault { field: "kind".to_string(), problem: Problem::NoCode { found, allowed } }
+}
+
 /// The fields of a member that its refusal is about.
 fn member(words: &Member, number: u64) -> Option<Vec<FieldFault>> {
-    let found = words[KIND_WORD];
-    let Some(kind) = Kind::of(found) else {
-        let allowed = KINDS.iter().map(|kind| (kind.name, kind.code)).collect();
-        let problem = Problem::NoCode { found, allowed };
-        return Some(vec![FieldFault { field: "kind".to_string(), problem }]);
+    let Some(kind) = kind_of(words) else {
+        return (number == 4).then(|| vec![no_kind(words[KIND_WORD])]);
     };
     let of_word = |word| kind.fields.iter().filter(move |field| field.word == word);
     match number {
@@ -99,7 +101,7 @@ pub fn explain(bytes: &[u8], refusal: &Refusal) -> Vec<FieldFault> {
     let Refusal { file, number, place } = *refusal;
     let Ok(place) = usize::try_from(place) else { return Vec::new() };
     let faults = match (file, number) {
-        (Which::Survey, 4..=8) => {
+        (Which::Survey, _) => {
             let at = place.checked_sub(1);
             at.and_then(|at| member(file::members(bytes).get(at)?, number))
         }

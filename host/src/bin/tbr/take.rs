@@ -62,7 +62,7 @@ fn from_file(input: &Input, which: Which) -> Result<Taken, Failure> {
 
 /// Answers that do not fit together.
 pub fn internal(name: &str, words: impl std::fmt::Display) -> Failure {
-    Failure::other(Status::Internal, name, format!("internal error, nothing is judged: {words}"))
+    Failure::other(Status::Internal, name, format!("internal error: {words}"))
 }
 
 fn from_text(input: &Input) -> Result<Taken, Failure> {
