@@ -25,11 +25,9 @@ mod tables;
 mod write;
 
 pub use error::{FieldFault, Problem, TextError};
-pub use explain::explain;
+pub use explain::{explain, numbers};
 pub use field::{Field, Limits, Value, Within};
 pub use look::{look, Look};
 pub use read::read;
-pub use tables::{
-    Kind, Layout, Section, ALL_SPECIES, AXLE, FIRST_AXLE, HEADING, KINDS, MEMBER_LETTERS, SECTIONS,
-};
+pub use tables::{Kind, Layout, Section, ALL_SPECIES, AXLE, FIRST_AXLE, HEADING, KINDS, SECTIONS};
 pub use write::{clause, kind_of, section_of, write};

@@ -104,8 +104,10 @@ fn status(report: &Report) -> Status {
     }
 }
 
-/// How the report is written: for standard output, and for standard error.
-fn style(arguments: &Arguments) -> Result<fn(&Report) -> (String, String), String> {
+/// How a report is written: for standard output, and for standard error.
+type Style = fn(&Report) -> (String, String);
+
+fn style(arguments: &Arguments) -> Result<Style, String> {
     match (arguments.has("--csv"), arguments.has("--json")) {
         (true, true) => Err("--csv and --json do not go together".to_string()),
         (true, false) => Ok(|report| (csv::lines(report), String::new())),
