@@ -12,8 +12,8 @@
 //! axle, weight 3000 kgf, distance 370 cm
 //! ```
 //! `#` opens a comment; blank lines are passed over; the order within a line is free after its
-//! first words. A byte order mark, either end of line, any run of blanks and tabs, and a comma at the
-//! end of a line are taken as they are meant.
+//! first words. A byte order mark, either end of line, any run of blanks and tabs, and a comma at
+//! the end of a line are taken as they are meant.
 
 mod error;
 mod explain;

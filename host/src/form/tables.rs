@@ -1,5 +1,5 @@
-//! The one place for what the files may hold: marks, versions and counts, the fields of each kind of
-//! member, of each section and of a vehicle, with their limits.
+//! The one place for what the files may hold: marks, versions and counts, the fields of each kind
+//! of member, of each section and of a vehicle, with their limits.
 
 use super::field::{number, words, Field, Within};
 use crate::refusal::Which;
