@@ -5,7 +5,7 @@ mod common;
 use common::{expected, library};
 use reference::generate::*;
 use tbr::file;
-use tbr::form::{explain, read};
+use tbr::form::{explain, numbers, read};
 use tbr::{check_survey, check_vehicle, judge, Refusal, Which};
 
 const SURVEY: &[u8] = include_bytes!("../../samples/case-a.tbr");
@@ -233,8 +233,11 @@ fn refusals_of_other_bytes_name_nothing() {
             for place in [0, 1, 2, 65, u64::MAX] {
                 let refusal = Refusal { file, number, place };
                 assert_eq!(explain(&[], &refusal), []);
-                explain(SURVEY, &refusal);
-                explain(VEHICLE, &refusal);
+                assert_eq!(numbers(&[], &refusal), []);
+                for bytes in [SURVEY, VEHICLE] {
+                    let (named, all) = (explain(bytes, &refusal), numbers(bytes, &refusal));
+                    assert!(named.len() <= all.len(), "{refusal}");
+                }
                 assert!(!refusal.to_string().is_empty());
             }
         }

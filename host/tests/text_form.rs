@@ -7,8 +7,10 @@ use reference::generate::*;
 use reference::reader;
 use tbr::file::{self, Contents};
 use tbr::form::{
-    read, write, Field, Problem, TextError, Value, AXLE, FIRST_AXLE, HEADING, KINDS, SECTIONS,
+    look, read, write, Field, Look, Problem, TextError, Value, AXLE, FIRST_AXLE, HEADING, KINDS,
+    SECTIONS,
 };
+use tbr::Which;
 
 const STRINGER: &str = "stringer, species pine, span 500 cm, spacing 140 cm, dead load 100 kgf/m, \
                         section log, diameter 28 cm, rot 0 cm, tiers 1";
@@ -314,6 +316,10 @@ fn all_faults_at_once() {
          hornbeam, beech",
     ];
     assert_eq!(faults(text.as_bytes()), expected.join("\n"));
+}
+
+#[test]
+fn all_faults_of_a_vehicle_at_once() {
     let vehicle = b"vehicle, class bus, track 99 cm\naxle, weight 0 kgf, distance 1 cm\n\
                     wheel\naxle, weight 5, distance 5 cm, distance 6 cm\n\xff\n";
     let expected = [
@@ -372,4 +378,27 @@ fn records_without_their_heading() {
     let not_text = [b"survey \xff\n", STRINGER.as_bytes()].concat();
     assert_eq!(faults(&not_text), "line 1, text: this is not text (UTF-8)");
     assert_eq!(faults(b"a letter\nto nobody\n"), format!("line 1, {heading}"));
+}
+
+/// What bytes look like before they are read: files by their mark, texts by what stands in them.
+#[test]
+fn files_and_texts_are_told_apart() {
+    let (survey, vehicle) = (Which::Survey, Which::Vehicle);
+    for (bytes, expected) in [
+        (&b"TBR"[..], Look::File(survey)),
+        (b"TBV\x01\x00\x00", Look::File(vehicle)),
+        (b"survey", Look::Text(survey)),
+        (b"\xef\xbb\xbf# a bridge\r\n\tsurvey,\r\n", Look::Text(survey)),
+        (b"vehicle, class bus\naxle\n", Look::Text(vehicle)),
+        (b"survy\ncross  beam, span\n", Look::Text(survey)),
+        (b"axle", Look::Text(vehicle)),
+        (b"survey # Br\xfccke", Look::Text(survey)),
+        (b"a letter", Look::OtherText),
+        (b"# nothing\n", Look::OtherText),
+        (b"", Look::Other),
+        (b"survey\0", Look::Other),
+        (b"\xff\xfes\0u\0r\0", Look::Other),
+    ] {
+        assert_eq!(look(bytes), expected, "{:?}", String::from_utf8_lossy(bytes));
+    }
 }

@@ -10,7 +10,7 @@ use std::os::unix::ffi::{OsStrExt, OsStringExt};
 use std::os::unix::fs::{symlink, MetadataExt, PermissionsExt};
 use std::os::unix::process::ExitStatusExt;
 use std::path::Path;
-use std::process::{Command, Output, Stdio};
+use std::process::{Child, Command, Output, Stdio};
 
 /// Exit status 3, nothing on standard output, and these words.
 fn not_written<T: AsRef<OsStr> + std::fmt::Debug>(words: &[T], why: &str) {
@@ -153,6 +153,37 @@ fn folders_and_missing_folders() {
     not_written(&["make", "case-a.txt", &folder.path("no/such.tbr")], "cannot be written");
     not_written(&["make", "case-a.txt", &folder.path("new.tbr/")], "cannot be written");
     assert_eq!(folder.names(), [""; 0]);
+}
+
+/// A name without a folder is of the current one.
+#[test]
+fn a_bare_name() {
+    let folder = Folder::new("bare");
+    let text = folder.file("a.txt", text("case-a.txt"));
+    for words in [&["make", &text, "a.tbr"][..], &["make", "--force", &text, "a.tbr"]] {
+        let said = answer(tbr(words).current_dir(folder.folder()));
+        assert_eq!(said, (0, "a.tbr: survey of 1 member\n".to_string(), String::new()));
+        assert_eq!(fs::read(folder.path("a.tbr")).unwrap(), sample("case-a.tbr"));
+        assert_eq!(folder.names(), ["a.tbr", "a.txt"]);
+    }
+}
+
+/// Of several that make a new file at once, one does; the others find it there.
+#[test]
+fn one_of_several_at_once() {
+    let folder = Folder::new("at-once");
+    for round in 0..10 {
+        let file = folder.path(&format!("{round}.tbr"));
+        let start = |_| {
+            let mut command = tbr(&["make", "case-a.txt", &file]);
+            command.stdout(Stdio::null()).stderr(Stdio::null()).spawn().unwrap()
+        };
+        let children: Vec<Child> = (0..6).map(start).collect();
+        let done = children.into_iter().map(|mut child| child.wait().unwrap().success());
+        assert_eq!(done.filter(|done| *done).count(), 1);
+        assert_eq!(fs::read(&file).unwrap(), sample("case-a.tbr"));
+    }
+    assert_eq!(folder.names().len(), 10, "no temporary file is left");
 }
 
 /// `tbr` in a shell that lets no file grow: as on a full disk, the write fails, and where the

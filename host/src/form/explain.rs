@@ -3,8 +3,8 @@
 use super::error::{FieldFault, Problem};
 use super::field::Field;
 use super::tables::*;
-use super::write::section_of;
-use crate::file::{self, Member};
+use super::write::{kind_of, section_of};
+use crate::file::{self, Axle, Member};
 use crate::refusal::{Refusal, Which};
 
 /// The name of a member's field with the letter of the layout.
@@ -61,13 +61,16 @@ fn unused(kind: &Kind, section: &Section, words: &Member) -> Vec<FieldFault> {
         .collect()
 }
 
-/// The fields of a member that its refusal is about.
+fn no_kind(found: u16) -> FieldFault {
+    let allowed = KINDS.iter().map(|kind| (kind.name, kind.code)).collect();
+    FieldFault { field: "kind".to_string(), problem: Problem::NoCode { found, allowed } }
+}
+
+/// The fields of a member that its refusal is about, by the document's numbers: 4 kind, 5 species,
+/// 6 section code, 7 a range, 8 an unused field.
 fn member(words: &Member, number: u64) -> Option<Vec<FieldFault>> {
-    let found = words[KIND_WORD];
-    let Some(kind) = Kind::of(found) else {
-        let allowed = KINDS.iter().map(|kind| (kind.name, kind.code)).collect();
-        let problem = Problem::NoCode { found, allowed };
-        return Some(vec![FieldFault { field: "kind".to_string(), problem }]);
+    let Some(kind) = kind_of(words) else {
+        return (number == 4).then(|| vec![no_kind(words[KIND_WORD])]);
     };
     let of_word = |word| kind.fields.iter().filter(move |field| field.word == word);
     match number {
@@ -82,29 +85,50 @@ fn member(words: &Member, number: u64) -> Option<Vec<FieldFault>> {
     }
 }
 
-/// The fields of a vehicle's heading (place 0) or of an axle that its refusal is about.
-fn vehicle(bytes: &[u8], place: usize) -> Option<Vec<FieldFault>> {
-    let vehicle = file::vehicle(bytes)?;
-    let name = |field: &Field| field.name.to_string();
-    Some(match place {
-        0 => wrong(&HEADING, &vehicle.heading, name),
-        1 => wrong(&FIRST_AXLE, vehicle.axles.first()?, name),
-        _ => wrong(&AXLE, vehicle.axles.get(place - 1)?, name),
-    })
+/// The record that a refusal is about.
+enum Record {
+    Member(Member),
+    Heading([u16; 2]),
+    FirstAxle(Axle),
+    Axle(Axle),
 }
 
-/// The fields that the refusal of this file, by one of the numbers 4 to 8, is about: each with its
-/// value and what it may be. None where the refusal is about no record, or not of these bytes.
-pub fn explain(bytes: &[u8], refusal: &Refusal) -> Vec<FieldFault> {
-    let Refusal { file, number, place } = *refusal;
-    let Ok(place) = usize::try_from(place) else { return Vec::new() };
-    let faults = match (file, number) {
-        (Which::Survey, 4..=8) => {
-            let at = place.checked_sub(1);
-            at.and_then(|at| member(file::members(bytes).get(at)?, number))
+/// None for a refusal of the length, the mark or the count: those are the numbers below 4.
+fn record(bytes: &[u8], refusal: &Refusal) -> Option<Record> {
+    let place = usize::try_from(refusal.place).ok().filter(|_| refusal.number >= 4)?;
+    match (refusal.file, place) {
+        (Which::Survey, 0) => None,
+        (Which::Survey, _) => {
+            file::members(bytes).get(place - 1).map(|words| Record::Member(*words))
         }
-        (Which::Vehicle, 7) => vehicle(bytes, place),
-        _ => None,
+        (Which::Vehicle, 0) => Some(Record::Heading(file::vehicle(bytes)?.heading)),
+        (Which::Vehicle, 1) => Some(Record::FirstAxle(*file::vehicle(bytes)?.axles.first()?)),
+        (Which::Vehicle, _) => Some(Record::Axle(*file::vehicle(bytes)?.axles.get(place - 1)?)),
+    }
+}
+
+/// The fields that the refusal of this file is about, each with its value and what it may be. None
+/// where the refusal is about no record, or not of these bytes.
+pub fn explain(bytes: &[u8], refusal: &Refusal) -> Vec<FieldFault> {
+    let name = |field: &Field| field.name.to_string();
+    match record(bytes, refusal) {
+        Some(Record::Member(words)) => member(&words, refusal.number).unwrap_or_default(),
+        Some(Record::Heading(words)) => wrong(&HEADING, &words, name),
+        Some(Record::FirstAxle(words)) => wrong(&FIRST_AXLE, &words, name),
+        Some(Record::Axle(words)) => wrong(&AXLE, &words, name),
+        None => Vec::new(),
+    }
+}
+
+/// All numbers of the record that the refusal is about, by the letters of the layout or by name.
+pub fn numbers(bytes: &[u8], refusal: &Refusal) -> Vec<(&'static str, u16)> {
+    let by_name = |fields: [Field; 2], words: [u16; 2]| {
+        fields.iter().map(|field| field.name).zip(words).collect()
     };
-    faults.unwrap_or_default()
+    match record(bytes, refusal) {
+        Some(Record::Member(words)) => MEMBER_LETTERS.into_iter().zip(words).collect(),
+        Some(Record::Heading(words)) => by_name(HEADING, words),
+        Some(Record::FirstAxle(words) | Record::Axle(words)) => by_name(AXLE, words),
+        None => Vec::new(),
+    }
 }

@@ -36,6 +36,13 @@ pub struct Limits {
     pub unit: &'static str,
 }
 
+impl Limits {
+    /// Is the number within them?
+    pub fn hold(&self, number: u16) -> bool {
+        (self.least..=self.greatest).contains(&number)
+    }
+}
+
 /// A limit that another field of the record sets.
 #[derive(Clone, Copy, Debug)]
 pub enum Within {
@@ -84,8 +91,8 @@ impl Field {
     pub fn problem(&self, found: u16) -> Option<Problem> {
         match self.value {
             Value::Number(limits) => {
-                let holds = (limits.least..=limits.greatest).contains(&found);
-                (!holds).then(|| Problem::Outside { found: found.to_string(), limits })
+                let outside = || Problem::Outside { found: found.to_string(), limits };
+                (!limits.hold(found)).then(outside)
             }
             Value::Word(all) => {
                 let known = all.iter().any(|(_, number)| *number == found);

@@ -88,7 +88,7 @@ fn number(text: &str, limits: Limits) -> Result<u16, Problem> {
         return Err(Problem::Unit { found: unit.to_string(), unit: limits.unit });
     }
     match digits.parse() {
-        Ok(value) if (limits.least..=limits.greatest).contains(&value) => Ok(value),
+        Ok(value) if limits.hold(value) => Ok(value),
         _ => Err(Problem::Outside { found, limits }),
     }
 }

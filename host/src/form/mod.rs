@@ -12,8 +12,8 @@
 //! axle, weight 3000 kgf, distance 370 cm
 //! ```
 //! `#` opens a comment; blank lines are passed over; the order within a line is free after its
-//! first words. A byte order mark, either end of line, any run of blanks and tabs, and a comma at the
-//! end of a line are taken as they are meant.
+//! first words. A byte order mark, either end of line, any run of blanks and tabs, and a comma at
+//! the end of a line are taken as they are meant.
 
 mod error;
 mod explain;
@@ -25,11 +25,9 @@ mod tables;
 mod write;
 
 pub use error::{FieldFault, Problem, TextError};
-pub use explain::explain;
+pub use explain::{explain, numbers};
 pub use field::{Field, Limits, Value, Within};
 pub use look::{look, Look};
 pub use read::read;
-pub use tables::{
-    Kind, Layout, Section, ALL_SPECIES, AXLE, FIRST_AXLE, HEADING, KINDS, MEMBER_LETTERS, SECTIONS,
-};
+pub use tables::{Kind, Layout, Section, ALL_SPECIES, AXLE, FIRST_AXLE, HEADING, KINDS, SECTIONS};
 pub use write::{clause, kind_of, section_of, write};

@@ -129,25 +129,27 @@ fn records<T>(
 /// The first line as a heading, and the lines of the records. A first line that is no heading is a
 /// record where it reads like one.
 fn split<'a>(lines: &'a [Cut], faults: &mut Vec<TextError>) -> (Option<&'a Line>, &'a [Cut]) {
-    let no_heading = |line| {
+    let mut no_heading = |line| {
         let (field, problem) = ("heading".to_string(), Problem::NoHeading);
-        TextError { line, field, problem }
+        faults.push(TextError { line, field, problem });
     };
     match lines.split_first() {
-        None => faults.push(no_heading(1)),
-        Some((Err(fault), rest)) => {
-            faults.push(fault.clone());
-            return (None, rest);
-        }
         Some((first @ Ok(line), rest)) => {
             if headed(first).is_some() {
                 return (Some(line), rest);
             }
-            faults.push(no_heading(line.number));
-            return (None, if recorded(first).is_some() { lines } else { rest });
+            no_heading(line.number);
+            (None, if recorded(first).is_some() { lines } else { rest })
+        }
+        Some((Err(not_text), rest)) => {
+            faults.push(not_text.clone());
+            (None, rest)
+        }
+        None => {
+            no_heading(1);
+            (None, lines)
         }
     }
-    (None, lines)
 }
 
 fn contents(lines: &[Cut], faults: &mut Vec<TextError>) -> Option<Contents> {

@@ -1,5 +1,5 @@
-//! The one place for what the files may hold: marks, versions and counts, the fields of each kind of
-//! member, of each section and of a vehicle, with their limits.
+//! The one place for what the files may hold: marks, versions and counts, the fields of each kind
+//! of member, of each section and of a vehicle, with their limits.
 
 use super::field::{number, words, Field, Within};
 use crate::refusal::Which;
@@ -60,6 +60,8 @@ pub const MEMBER_LETTERS: [&str; 16] = [
 pub const KIND_WORD: usize = 0;
 /// The word of the species.
 pub const SPECIES_WORD: usize = 1;
+/// The word of the section code.
+pub const SECTION_WORD: usize = 7;
 
 /// The species, each with its number.
 pub const ALL_SPECIES: [(&str, u16); 10] = [
@@ -87,8 +89,6 @@ const JOINT_PART: Field =
     number("joint part", 14, 1, 1000, "").within(Within::AtMost(&CHORD_WHOLE));
 const CHORD_WHOLE: Field = number("chord whole", 15, 1, 1000, "");
 
-/// The word of the section code.
-pub const SECTION_WORD: usize = 7;
 const IN_BENDING: Field = words("section", SECTION_WORD, &[("log", 1), ("sawn", 2)]);
 const OF_CHORD: Field = words("section", SECTION_WORD, &[("sawn", 2)]);
 const OF_DOWELS: Field = words("section", SECTION_WORD, &[("dowels", 3)]);

@@ -104,6 +104,18 @@ fn status(report: &Report) -> Status {
     }
 }
 
+/// How a report is written: for standard output, and for standard error.
+type Style = fn(&Report) -> (String, String);
+
+fn style(arguments: &Arguments) -> Result<Style, String> {
+    match (arguments.has("--csv"), arguments.has("--json")) {
+        (true, true) => Err("--csv and --json do not go together".to_string()),
+        (true, false) => Ok(|report| (csv::lines(report), String::new())),
+        (false, true) => Ok(|report| (json::line(report), String::new())),
+        (false, false) => Ok(table::tables),
+    }
+}
+
 /// The command, or what is wrong with its arguments.
 pub fn run(arguments: &Arguments) -> Result<End, String> {
     let [survey, vehicles @ ..] = &arguments.operands[..] else {
@@ -115,12 +127,8 @@ pub fn run(arguments: &Arguments) -> Result<End, String> {
     if arguments.operands.iter().filter(|name| *name == STANDARD).count() > 1 {
         return Err("standard input can be read but once".to_string());
     }
+    let style = style(arguments)?;
     let report = report(survey, vehicles);
-    let (out, errors) = match (arguments.has("--csv"), arguments.has("--json")) {
-        (true, true) => return Err("--csv and --json do not go together".to_string()),
-        (true, false) => (csv::lines(&report), String::new()),
-        (false, true) => (json::line(&report), String::new()),
-        (false, false) => table::tables(&report),
-    };
+    let (out, errors) = style(&report);
     Ok(End { status: status(&report), out: out.into_bytes(), errors })
 }

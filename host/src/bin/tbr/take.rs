@@ -3,7 +3,7 @@
 use crate::end::{Cause, Failure, Status};
 use crate::input::Input;
 use tbr::file::{self, Contents};
-use tbr::form::{self, look, Look, MEMBER_LETTERS};
+use tbr::form::{self, look, Look};
 use tbr::{check_survey, check_vehicle, Refusal, Which};
 
 /// A file that the library takes.
@@ -19,29 +19,9 @@ fn check(bytes: &[u8], which: Which) -> Result<(), Refusal> {
     }
 }
 
-/// The numbers that the refusal is about; none for a file whose length, mark or count is wrong.
-fn record(bytes: &[u8], refusal: &Refusal) -> Option<Vec<(&'static str, u16)>> {
-    let Refusal { file, number, place } = *refusal;
-    if number < 4 {
-        return None;
-    }
-    let at = usize::try_from(place).ok()?.checked_sub(1);
-    let named = |names: &[&'static str], words: &[u16]| {
-        Some(names.iter().copied().zip(words.iter().copied()).collect())
-    };
-    match (file, at) {
-        (Which::Survey, at) => named(&MEMBER_LETTERS, file::members(bytes).get(at?)?),
-        (Which::Vehicle, None) => named(&["class", "track"], &file::vehicle(bytes)?.heading),
-        (Which::Vehicle, Some(at)) => {
-            named(&["weight", "distance"], file::vehicle(bytes)?.axles.get(at)?)
-        }
-    }
-}
-
 /// The refusal of these bytes, with the fields at fault.
 fn refused(name: &str, bytes: &[u8], refusal: Refusal) -> Failure {
-    let faults = form::explain(bytes, &refusal);
-    let record = record(bytes, &refusal).unwrap_or_default();
+    let (faults, record) = (form::explain(bytes, &refusal), form::numbers(bytes, &refusal));
     let cause = Cause::Refused { refusal, faults, record };
     Failure { file: name.to_string(), cause, hint: None }
 }
@@ -62,7 +42,7 @@ fn from_file(input: &Input, which: Which) -> Result<Taken, Failure> {
 
 /// Answers that do not fit together.
 pub fn internal(name: &str, words: impl std::fmt::Display) -> Failure {
-    Failure::other(Status::Internal, name, format!("internal error, nothing is judged: {words}"))
+    Failure::other(Status::Internal, name, format!("internal error: {words}"))
 }
 
 fn from_text(input: &Input) -> Result<Taken, Failure> {
