@@ -28,7 +28,7 @@ use Rattle.files.specs.Words.{each}
 use Rattle.files.specs.declared.Refusal.{Refusal}
 use Rattle.session.specs.Answers.{Answer, Values, RefusedAt, refusedBy, ratingValues, judgementValues}
 use Rattle.session.specs.Calls.{Valid, newSession, members, loadSurvey, loadVehicle, rate, judge, judgeList, judgeFiles}
-use Rattle.session.specs.History.{Call, LoadSurvey, LoadVehicle, after, TakenLast, Holds}
+use Rattle.session.specs.History.{Call, LoadSurvey, LoadVehicle, after, TakesSurvey, TakesVehicle, NoneTakes, LastTakes, TakenLast, Holds}
 use Rattle.session.specs.declared.Session.{Session}
 
 -- In a session: the permitted load, the vehicle load and the rating of the member of index i (its place less 1), and the bridge's
@@ -49,6 +49,11 @@ judgementIn s = judgementOf (members s) (s .vehicle)
 abbrev pub FromState : (numbers : ℕ → Type 0) → Answer → Type 0
 FromState numbers a = ((values : List ℕ) × (a ≡ Values values)) ⊎ ((n : ℕ) × (numbers n) × (a ≡ RefusedAt n 0))
 
+-- rate and judge are refused by this number, whatever place and list they are given
+abbrev pub RefusedBoth : Session → (number : ℕ) → Type 0
+RefusedBoth s number =
+    ((place : ℕ) → rate s place .answer ≡ RefusedAt number 0) × ((list : List ℕ) → judge s list .answer ≡ RefusedAt number 0)
+
 -- Demand 1. "Every call ends" is what the checker shows of every function that it accepts; the calls below are total.
 pub record Demand1 : Type 0 where
   -- "The two files, as bytes of any length, are taken, or refused by a number of the list with the record named."
@@ -63,6 +68,11 @@ pub record Demand1 : Type 0 where
   pub vehicle-named : (s : Session) (bytes : List ℕ) (r : Refusal) → VehicleRefusal bytes r → loadVehicle s bytes .answer ≡ refusedBy r
   pub rate-answered : (s : Session) (place : ℕ) → FromState (In (11 ‥ 13)) (rate s place .answer)
   pub judge-answered : (s : Session) (list : List ℕ) → FromState (λ n. (In (11 ‥ 12) n) ⊎ (n ≡ 14)) (judge s list .answer)
+  -- "11 no survey; 12 no vehicle": where the calls from a new session took none
+  pub no-survey : (calls : List Call) → NoneTakes TakesSurvey newSession calls → RefusedBoth (after newSession calls) 11
+  pub no-vehicle : (calls : List Call) (survey : List ℕ) → LastTakes TakesSurvey (LoadSurvey survey) newSession calls →
+      NoneTakes TakesVehicle newSession calls →
+      RefusedBoth (after newSession calls) 12
   -- all that the calls' contracts ask of a session: it holds after any calls from a new one
   pub valid : (calls : List Call) → Valid (after newSession calls)
   -- "A refused file or call leaves survey, vehicle and answer list untouched."
@@ -137,6 +147,9 @@ pub record FilesAnswered (s : Session) (survey vehicle : List ℕ) : Type 0 wher
       judge s list .answer ≡ Values (judgementValues (judgementOf (recordsOf survey) (vehicleOf vehicle)))
   pub listed : (list : List ℕ) → 2 * countOf survey ≤ length list →
       judgeList s list ≡ written (vehicleOf vehicle) (recordsOf survey) list
+  -- "13 no such place; 14 list shorter than two entries a member"
+  pub no-place : (place : ℕ) → ¬ (In (1 ‥ countOf survey) place) → rate s place .answer ≡ RefusedAt 13 0
+  pub short-list : (list : List ℕ) → length list < 2 * countOf survey → judge s list .answer ≡ RefusedAt 14 0
   pub permitted-load : (i : ℕ) → i < countOf survey →
       Permitted (formulaOf (recordAt survey i) (vehicleOf vehicle .class) (vehicleOf vehicle .track .0)) (permittedFor (vehicleOf vehicle) (recordAt survey i))
   pub vehicle-load : (i : ℕ) → i < countOf survey →
