@@ -1,7 +1,7 @@
 -- The three demands hold: each part from the law of the crate whose matter it is, and from the cases of the calls' definitions.
 -- Assumes nothing.
-use Prim.Native.Nat.{ℕ, _+_, _-_, _*_, _≤_, _<_}
-use mathlib.Core.Path.{_≡_, refl, sym, ap, subst, _∙_}
+use Prim.Native.Nat.{ℕ, _+_, _*_, _≤_, _<_}
+use mathlib.Core.Path.{_≡_, refl, ap, subst, _∙_}
 use mathlib.Core.Bool.{Bool, true, false, not}
 use mathlib.Core.List.{List, [], _∷_}
 use mathlib.Core.Logic.{_⊎_, inl, inr, ⊎-elim}
@@ -12,12 +12,11 @@ use lib.ListN.{length}
 use lib.Seq.{take-at}
 use borrow.Author.Tests.{ne-eqb, eqb-false, le-leb, lt-leb}
 use Rattle.section.specs.Choose.{choose}
-use Rattle.section.specs.Fraction.{whole, _⊕_, _⊑_, _⊏_}
 use Rattle.rating.specs.Compare.{SamePlaces, Heavier}
 use Rattle.member.specs.Format.{AllowedMember, AllowedVehicle, In, _‥_}
 use Rattle.member.specs.Formula.{Permitted}
 use Rattle.member.specs.PermittedLoad.{formulaOf}
-use Rattle.rating.specs.Judgement.{permittedFor, ratingOf, judgementOf, written}
+use Rattle.rating.specs.Judgement.{permittedFor, judgementOf, written}
 use Rattle.rating.specs.Surveyed.{AllowedSurvey, AllowedMembers, memberAt}
 use Rattle.section.specs.Units.{weight}
 use Rattle.influence.specs.Influence.{behind}
@@ -38,15 +37,14 @@ use Rattle.files.specs.SurveyFile.{countOf, recordAt, readSurvey, surveyOf}
 use Rattle.files.specs.VehicleFile.{readVehicle, vehicleOf}
 use Rattle.files.specs.Words.{each}
 use Rattle.files.proofs.Each.{length-each, getD-each}
-use Rattle.files.specs.declared.Reading.{Reading}
-use Rattle.files.specs.declared.Reading.the-variants.{Taken, Refused}
 use Rattle.files.specs.declared.Refusal.{Refusal}
 use Rattle.files.proofs.Tests.{first-is, rows-is, in-range, range-in, refutes}
 use Rattle.files.proofs.Surveys as surveys
 use Rattle.files.proofs.Vehicles as vehicles
-use Rattle.session.specs.Answers.{Outcome, Answer, Values, RefusedAt, refusedBy, ratingValues, judgementValues}
+use Rattle.session.specs.Answers.{Outcome, Values, RefusedAt, refusedBy, judgementValues}
 use Rattle.session.specs.Calls.{newSession, members, stateFault, rateFault, judgeFault, loadSurvey, loadVehicle, storedSurvey, storedVehicle, unlessFault, rate, judge, judgeList, judgeFiles}
-use Rattle.session.specs.Demands.{FromState, RefusedBoth, Demand1, Demand2, Demand3, Answers, FilesAnswered, Governs, Covers, Falls, recordsOf}
+use Rattle.session.specs.Demands.{Demand1, Demand2, Demand3}
+use Rattle.session.specs.Parts.{FromState, RefusedBoth, Answers, FilesAnswered, Covers, Falls, recordsOf}
 use Rattle.session.specs.History.{Holds, after}
 use Rattle.session.specs.declared.Session.{Session}
 use Rattle.session.proofs.History.{survey-stays, vehicle-stays, survey-last, last-held, in-turn, in-reverse, calls-valid}

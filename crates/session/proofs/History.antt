@@ -2,7 +2,7 @@
 -- touches it. From a new session it is valid.
 -- Assumes nothing.
 use Prim.Native.Nat.{ℕ}
-use mathlib.Core.Path.{_≡_, refl, sym, ap, _∙_}
+use mathlib.Core.Path.{_≡_, refl, ap, _∙_}
 use mathlib.Core.List.{List, [], _∷_}
 use Rattle.files.specs.SurveyFile.{readSurvey}
 use Rattle.files.specs.VehicleFile.{readVehicle}
