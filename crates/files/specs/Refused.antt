@@ -19,7 +19,7 @@ use Rattle.files.specs.VehicleFile.{VEHICLE-HEADER, AXLE, AXLE-FIELDS, c
 abbrev pub Marked : List ℕ → (letter : ℕ) → Type 0
 Marked bytes letter = (take 3 bytes ≡ 84 ∷ 66 ∷ letter ∷ []) × (wordAt bytes 3 ≡ 1)
 
--- a file of this third letter, header, most records, and bytes of a record
+-- a file of this third letter (R is 82, V is 86), header, most records, and bytes of a record
 module _ (letter header most size : ℕ) (bytes : List ℕ) where
   -- a header with no fault
   pub record Headed : Type 0 where
@@ -77,12 +77,9 @@ pub data MemberFault (m : Member) : ℕ → Type 0 where
   -- "as A above B"
   A-above-B : KindGood m → SpeciesGood m → SectionGood m → UnusedGood m → field m MU-B < field m MU-A → MemberFault m 7
 
-abbrev pub SurveyHeaded : List ℕ → Type 0
-SurveyHeaded bytes = Headed 82 SURVEY-HEADER MOST-MEMBERS RECORD bytes
-
 -- the header is good, the record of index i is the first that document 01 does not allow, and this is its fault
 pub record FirstRecord (bytes : List ℕ) (number i : ℕ) : Type 0 where
-  pub headed : SurveyHeaded bytes
+  pub headed : Headed 82 SURVEY-HEADER MOST-MEMBERS RECORD bytes
   pub within : i < countOf bytes
   pub fault : MemberFault (recordAt bytes i) number
   pub before : (k : ℕ) → k < i → AllowedMember (recordAt bytes k)

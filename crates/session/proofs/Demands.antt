@@ -1,7 +1,7 @@
 -- The three demands hold: each part from the law of the crate whose matter it is, and from the cases of the calls' definitions.
 -- Assumes nothing.
-use Prim.Native.Nat.{ℕ, _+_, _-_, _*_, _≤_, _<_}
-use mathlib.Core.Path.{_≡_, refl, sym, ap, subst, _∙_}
+use Prim.Native.Nat.{ℕ, _+_, _*_, _≤_, _<_}
+use mathlib.Core.Path.{_≡_, refl, ap, subst, _∙_}
 use mathlib.Core.Bool.{Bool, true, false, not}
 use mathlib.Core.List.{List, [], _∷_}
 use mathlib.Core.Logic.{_⊎_, inl, inr, ⊎-elim}
@@ -10,14 +10,13 @@ use native.Mathlib.Omega.{arith}
 use lib.Dec.{eqb, leb}
 use lib.ListN.{length}
 use lib.Seq.{take-at}
-use borrow.Author.Tests.{ne-eqb, eqb-false, le-leb}
+use borrow.Author.Tests.{ne-eqb, eqb-false, le-leb, lt-leb}
 use Rattle.section.specs.Choose.{choose}
-use Rattle.section.specs.Fraction.{whole, _⊕_, _⊑_, _⊏_}
 use Rattle.rating.specs.Compare.{SamePlaces, Heavier}
 use Rattle.member.specs.Format.{AllowedMember, AllowedVehicle, In, _‥_}
 use Rattle.member.specs.Formula.{Permitted}
 use Rattle.member.specs.PermittedLoad.{formulaOf}
-use Rattle.rating.specs.Judgement.{permittedFor, ratingOf, judgementOf, written}
+use Rattle.rating.specs.Judgement.{permittedFor, judgementOf, written}
 use Rattle.rating.specs.Surveyed.{AllowedSurvey, AllowedMembers, memberAt}
 use Rattle.section.specs.Units.{weight}
 use Rattle.influence.specs.Influence.{behind}
@@ -38,18 +37,17 @@ use Rattle.files.specs.SurveyFile.{countOf, recordAt, readSurvey, surveyOf}
 use Rattle.files.specs.VehicleFile.{readVehicle, vehicleOf}
 use Rattle.files.specs.Words.{each}
 use Rattle.files.proofs.Each.{length-each, getD-each}
-use Rattle.files.specs.declared.Reading.{Reading}
-use Rattle.files.specs.declared.Reading.the-variants.{Taken, Refused}
 use Rattle.files.specs.declared.Refusal.{Refusal}
-use Rattle.files.proofs.Tests.{first-is, rows-is, range-in}
+use Rattle.files.proofs.Tests.{first-is, rows-is, in-range, range-in, refutes}
 use Rattle.files.proofs.Surveys as surveys
 use Rattle.files.proofs.Vehicles as vehicles
-use Rattle.session.specs.Answers.{Outcome, Answer, Values, RefusedAt, refusedBy, ratingValues, judgementValues}
+use Rattle.session.specs.Answers.{Outcome, Values, RefusedAt, refusedBy, judgementValues}
 use Rattle.session.specs.Calls.{newSession, members, stateFault, rateFault, judgeFault, loadSurvey, loadVehicle, storedSurvey, storedVehicle, unlessFault, rate, judge, judgeList, judgeFiles}
-use Rattle.session.specs.Demands.{FromState, Demand1, Demand2, Demand3, Answers, FilesAnswered, Governs, Covers, Falls, recordsOf}
+use Rattle.session.specs.Demands.{Demand1, Demand2, Demand3}
+use Rattle.session.specs.Parts.{FromState, RefusedBoth, Answers, FilesAnswered, Covers, Falls, recordsOf}
 use Rattle.session.specs.History.{Holds, after}
 use Rattle.session.specs.declared.Session.{Session}
-use Rattle.session.proofs.History.{last-held, in-turn, in-reverse, calls-valid}
+use Rattle.session.proofs.History.{survey-stays, vehicle-stays, survey-last, last-held, in-turn, in-reverse, calls-valid}
 use Rattle.session.proofs.Loads.{never-both, reading-case, survey-read, vehicle-read, survey-load, vehicle-load, survey-refused, vehicle-refused}
 use Rattle.session.proofs.State.{taken-survey-allowed, valid-new}
 
@@ -95,6 +93,21 @@ list-untouched s list n p = go (eqb (judgeFault (s .survey .count) (s .vehicle .
     go true e = never-both _ n p e
     go false e = refl
 
+-- a survey that was taken has members
+taken-loaded : (survey : List ℕ) → loadSurvey newSession survey .answer ≡ Values [] → 0 < loadSurvey newSession survey .session .survey .count
+taken-loaded survey t =
+    let e = survey-read newSession survey t in
+    rw (survey-load newSession survey e) (surveys.taken-allowed survey e .count .0)
+
+-- where nothing is loaded
+none-refused : (s : Session) → s .survey .count ≡ 0 → RefusedBoth s 11
+unfolding rate judge rateFault judgeFault stateFault
+none-refused s e = (λ place. rw e, λ list. rw e)
+
+half-refused : (s : Session) → 0 < s .survey .count → s .vehicle .axles ≡ 0 → RefusedBoth s 12
+unfolding rate judge rateFault judgeFault stateFault
+half-refused s h e = (λ place. rw (ne-eqb (s .survey .count) 0 (omega arith), e), λ list. rw (ne-eqb (s .survey .count) 0 (omega arith), e))
+
 pub demand1 : Demand1
 unfolding loadSurvey loadVehicle rate judge
 demand1 =
@@ -113,6 +126,9 @@ demand1 =
       vehicle-named = λ s bytes r h. vehicle-refused s bytes r (vehicles.named-refused bytes r h);
       rate-answered = λ s place. fault-answer (In (11 ‥ 13)) _ _ (rate-number (s .survey .count) (s .vehicle .axles) place);
       judge-answered = λ s list. fault-answer (λ n. (In (11 ‥ 12) n) ⊎ (n ≡ 14)) _ _ (judge-number (s .survey .count) (s .vehicle .axles) (length list));
+      no-survey = λ calls h. none-refused (after newSession calls) (rw (survey-stays newSession calls h));
+      no-vehicle = λ calls survey h n.
+          half-refused (after newSession calls) (rw (survey-last survey h .1) (taken-loaded survey (survey-last survey h .0))) (rw (vehicle-stays newSession calls n));
       valid = λ calls. calls-valid newSession calls valid-new;
       survey-kept = λ s bytes n p.
           reading-case (readSurvey bytes .answer) (λ a. storedSurvey s a (readSurvey bytes .survey) .answer ≡ RefusedAt n p → storedSurvey s a (readSurvey bytes .survey) .session ≡ s)
@@ -236,6 +252,17 @@ falls s s' survey vehicle survey' vehicle' h h' p v =
       bridge-verdict = bridge-stays-refused v a a' (same-places p);
     }
 
+-- where the place, or the list, is wrong
+place-refused : (s : Session) (place : ℕ) → 0 < s .survey .count → 0 < s .vehicle .axles → ¬ (In (1 ‥ s .survey .count) place) → rate s place .answer ≡ RefusedAt 13 0
+unfolding rate rateFault stateFault
+place-refused s place hm ha hp =
+    rw (ne-eqb (s .survey .count) 0 (omega arith), ne-eqb (s .vehicle .axles) 0 (omega arith), refutes (isIn (1 ‥ s .survey .count) place) (in-range _ _) hp)
+
+list-refused : (s : Session) (list : List ℕ) → 0 < s .survey .count → 0 < s .vehicle .axles → length list < 2 * s .survey .count → judge s list .answer ≡ RefusedAt 14 0
+unfolding judge judgeFault stateFault
+list-refused s list hm ha hl =
+    rw (ne-eqb (s .survey .count) 0 (omega arith), ne-eqb (s .vehicle .axles) 0 (omega arith), lt-leb (2 * s .survey .count) (length list) hl)
+
 -- what is held, said of the files
 files-answered : (s : Session) (survey vehicle : List ℕ) → Holds s survey vehicle → FilesAnswered s survey vehicle
 files-answered s survey vehicle h =
@@ -247,6 +274,8 @@ files-answered s survey vehicle h =
       rated = λ i l. rw (← at i l, ← v) (a .rated i (rw n l));
       judged = λ list l. rw (← ms, ← v) (a .judged list (rw n l));
       listed = λ list l. rw (← ms, ← v) (a .listed list (rw n l));
+      no-place = λ place o. place-refused s place (held-survey h .count .0) (held-vehicle h .axles .0) (rw n o);
+      short-list = λ list l. list-refused s list (held-survey h .count .0) (held-vehicle h .axles .0) (rw n l);
       permitted-load = λ i l.
           subst (λ (w : Vehicle). Permitted (formulaOf (recordAt survey i) (w .class) (w .track .0)) (permittedFor w (recordAt survey i))) v
           (rw (← at i l) (permitted-load-exact (held-members h i (within i l)) (s .vehicle .class) (s .vehicle .track .0)));

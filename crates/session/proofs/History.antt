@@ -2,7 +2,7 @@
 -- touches it. From a new session it is valid.
 -- Assumes nothing.
 use Prim.Native.Nat.{ℕ}
-use mathlib.Core.Path.{_≡_, refl, sym, ap, _∙_}
+use mathlib.Core.Path.{_≡_, refl, ap, _∙_}
 use mathlib.Core.List.{List, [], _∷_}
 use Rattle.files.specs.SurveyFile.{readSurvey}
 use Rattle.files.specs.VehicleFile.{readVehicle}
@@ -31,11 +31,11 @@ vehicle-next s (LoadVehicle bytes) h = vehicle-left s bytes h
 vehicle-next s (Rate place) h = refl
 vehicle-next s (Judge list) h = refl
 
-survey-stays : (s : Session) (calls : List Call) → NoneTakes TakesSurvey s calls → after s calls .survey ≡ s .survey
+pub survey-stays : (s : Session) (calls : List Call) → NoneTakes TakesSurvey s calls → after s calls .survey ≡ s .survey
 survey-stays s [] h = refl
 survey-stays s (c ∷ calls) h = survey-stays (next s c) calls (h .1) ∙ survey-next s c (h .0)
 
-vehicle-stays : (s : Session) (calls : List Call) → NoneTakes TakesVehicle s calls → after s calls .vehicle ≡ s .vehicle
+pub vehicle-stays : (s : Session) (calls : List Call) → NoneTakes TakesVehicle s calls → after s calls .vehicle ≡ s .vehicle
 vehicle-stays s [] h = refl
 vehicle-stays s (c ∷ calls) h = vehicle-stays (next s c) calls (h .1) ∙ vehicle-next s c (h .0)
 
@@ -52,7 +52,7 @@ vehicle-alike s t bytes e =
     let r = vehicle-read s bytes e in
     (rw (vehicle-load t bytes r), rw (vehicle-load s bytes r, vehicle-load t bytes r))
 
-survey-last : {s : Session} {calls : List Call} (survey : List ℕ) → LastTakes TakesSurvey (LoadSurvey survey) s calls →
+pub survey-last : {s : Session} {calls : List Call} (survey : List ℕ) → LastTakes TakesSurvey (LoadSurvey survey) s calls →
     (loadSurvey newSession survey .answer ≡ Values []) × (after s calls .survey ≡ loadSurvey newSession survey .session .survey)
 survey-last survey (here {s} {later} t none) =
     let alike = survey-alike s newSession survey t in

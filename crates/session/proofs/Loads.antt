@@ -3,7 +3,7 @@
 use Prim.Native.Nat.{ℕ}
 use mathlib.Core.Path.{_≡_, refl, sym, ap}
 use mathlib.Core.Bool.{Bool, true, false}
-use mathlib.Core.List.{List, [], _∷_}
+use mathlib.Core.List.{List, []}
 use Rattle.files.specs.SurveyFile.{readSurvey, surveyOf}
 use Rattle.files.specs.VehicleFile.{readVehicle, vehicleOf}
 use Rattle.files.specs.declared.Reading.{Reading}
@@ -11,7 +11,7 @@ use Rattle.files.specs.declared.Reading.the-variants.{Taken, Refused}
 use Rattle.files.specs.declared.Refusal.{Refusal}
 use Rattle.files.proofs.Surveys as surveys
 use Rattle.files.proofs.Vehicles as vehicles
-use Rattle.session.specs.Answers.{Outcome, Answer, Values, RefusedAt, refusedBy}
+use Rattle.session.specs.Answers.{Answer, Values, RefusedAt, refusedBy}
 use Rattle.session.specs.Calls.{loadSurvey, loadVehicle, storedSurvey, storedVehicle}
 use Rattle.session.specs.declared.Session.{Session}
 

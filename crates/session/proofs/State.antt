@@ -1,7 +1,7 @@
 -- What the tests of the state say where they find no fault, and that every call leaves a valid session.
 -- Assumes nothing.
-use Prim.Native.Nat.{ℕ, _-_, _*_, _≤_, _<_}
-use mathlib.Core.Path.{_≡_, refl, sym, _∙_}
+use Prim.Native.Nat.{ℕ, _*_, _≤_, _<_}
+use mathlib.Core.Path.{_≡_, refl}
 use mathlib.Core.Bool.{Bool, true, false, not}
 use mathlib.Core.List.{List, [], _∷_}
 use native.Mathlib.Decide.{decLe}
@@ -9,12 +9,10 @@ use native.Mathlib.Omega.{arith}
 use Rattle.member.specs.Fields.{MOST-MEMBERS}
 use lib.Dec.{eqb, leb}
 use lib.ListN.{replicate}
-use borrow.Author.Tests.{eqb-false, leb-true, ne-eqb}
-use Rattle.member.specs.Format.{AllowedMember, AllowedVehicle, In, _‥_}
-use Rattle.rating.specs.Surveyed.{AllowedSurvey, membersOf, memberAt}
-use Rattle.member.specs.declared.record.Survey.{Survey}
-use Rattle.member.specs.declared.record.Vehicle.{Vehicle}
-use Rattle.files.specs.Reading.{_unless_, firstOf, isIn}
+use borrow.Author.Tests.{eqb-false, leb-true}
+use Rattle.member.specs.Format.{In, _‥_}
+use Rattle.rating.specs.Surveyed.{AllowedSurvey}
+use Rattle.files.specs.Reading.{_unless_, isIn}
 use Rattle.files.specs.SurveyFile.{readSurvey}
 use Rattle.files.specs.VehicleFile.{readVehicle}
 use Rattle.files.specs.declared.Reading.the-variants.{Taken, Refused}

@@ -1,53 +1,28 @@
 -- The three demands, each a record whose parts stand under the sentence that they state. proofs/Demands.antt proves each of them, of
 -- the calls' definitions (Calls); the contracts of `Session` tie the code to those.
-use Prim.Native.Nat.{ℕ, _+_, _-_, _*_, _≤_, _<_}
+use Prim.Native.Nat.{ℕ, _<_}
 use mathlib.Core.Path.{_≡_}
 use mathlib.Core.List.{List, [], _∷_}
 use mathlib.Core.Logic.{_⊎_, _↔_}
 use lib.ListN.{length}
-use Rattle.section.specs.Fraction.{Fraction, Sound, whole, _⊕_, _⊑_, _⊏_}
-use Rattle.section.specs.Units.{weight}
-use Rattle.influence.specs.Influence.{gives, behind}
 use Rattle.rating.specs.Compare.{SamePlaces, Heavier}
 use Rattle.member.specs.Format.{In, _‥_}
 use Rattle.member.specs.Formula.{Permitted}
-use Rattle.rating.specs.Judgement.{permittedFor, ratingOf, judgementOf, written}
+use Rattle.rating.specs.Judgement.{judgementOf}
 use Rattle.member.specs.PermittedLoad.{formulaOf}
 use Rattle.rating.specs.Surveyed.{memberAt}
-use Rattle.rating.specs.VehicleLoad.{influenceLine, vehicleLoadOn}
-use Rattle.rating.specs.declared.judging.Judgement.{Judgement}
-use Rattle.rating.specs.declared.judging.Rating.{Rating}
-use Rattle.rating.specs.declared.judging.Verdict.the-variants.{Refuse}
 use Rattle.member.specs.declared.record.Member.{Member}
 use Rattle.member.specs.declared.record.Vehicle.{Vehicle}
 use Rattle.files.specs.Allowed.{AllowedSurveyFile, AllowedVehicleFile}
 use Rattle.files.specs.Refused.{SurveyRefusal, VehicleRefusal}
-use Rattle.files.specs.SurveyFile.{countOf, recordAt, surveyOf}
+use Rattle.files.specs.SurveyFile.{surveyOf}
 use Rattle.files.specs.VehicleFile.{vehicleOf}
-use Rattle.files.specs.Words.{each}
 use Rattle.files.specs.declared.Refusal.{Refusal}
-use Rattle.session.specs.Answers.{Answer, Values, RefusedAt, refusedBy, ratingValues, judgementValues}
+use Rattle.session.specs.Answers.{Values, RefusedAt, refusedBy, judgementValues}
 use Rattle.session.specs.Calls.{Valid, newSession, members, loadSurvey, loadVehicle, rate, judge, judgeList, judgeFiles}
-use Rattle.session.specs.History.{Call, LoadSurvey, LoadVehicle, after, TakenLast, Holds}
+use Rattle.session.specs.History.{Call, LoadSurvey, LoadVehicle, after, TakesSurvey, TakesVehicle, NoneTakes, LastTakes, TakenLast, Holds}
+use Rattle.session.specs.Parts.{FromState, RefusedBoth, Answers, FilesAnswered, Governs, Covers, Falls, permittedAt, vehicleLoadAt, judgementIn, recordsOf}
 use Rattle.session.specs.declared.Session.{Session}
-
--- In a session: the permitted load, the vehicle load and the rating of the member of index i (its place less 1), and the bridge's
--- judgement.
-abbrev pub permittedAt : Session → (i : ℕ) → ℕ
-permittedAt s i = permittedFor (s .vehicle) (memberAt (members s) i)
-
-abbrev pub vehicleLoadAt : Session → (i : ℕ) → ℕ
-vehicleLoadAt s i = vehicleLoadOn (memberAt (members s) i) (s .vehicle)
-
-abbrev pub ratingAt : Session → (i : ℕ) → Rating
-ratingAt s i = ratingOf (memberAt (members s) i) (s .vehicle)
-
-abbrev pub judgementIn : Session → Judgement
-judgementIn s = judgementOf (members s) (s .vehicle)
-
--- the call succeeds with values, or is refused by a number from the state, at place 0
-abbrev pub FromState : (numbers : ℕ → Type 0) → Answer → Type 0
-FromState numbers a = ((values : List ℕ) × (a ≡ Values values)) ⊎ ((n : ℕ) × (numbers n) × (a ≡ RefusedAt n 0))
 
 -- Demand 1. "Every call ends" is what the checker shows of every function that it accepts; the calls below are total.
 pub record Demand1 : Type 0 where
@@ -63,6 +38,11 @@ pub record Demand1 : Type 0 where
   pub vehicle-named : (s : Session) (bytes : List ℕ) (r : Refusal) → VehicleRefusal bytes r → loadVehicle s bytes .answer ≡ refusedBy r
   pub rate-answered : (s : Session) (place : ℕ) → FromState (In (11 ‥ 13)) (rate s place .answer)
   pub judge-answered : (s : Session) (list : List ℕ) → FromState (λ n. (In (11 ‥ 12) n) ⊎ (n ≡ 14)) (judge s list .answer)
+  -- "11 no survey; 12 no vehicle": where the calls from a new session took none
+  pub no-survey : (calls : List Call) → NoneTakes TakesSurvey newSession calls → RefusedBoth (after newSession calls) 11
+  pub no-vehicle : (calls : List Call) (survey : List ℕ) → LastTakes TakesSurvey (LoadSurvey survey) newSession calls →
+      NoneTakes TakesVehicle newSession calls →
+      RefusedBoth (after newSession calls) 12
   -- all that the calls' contracts ask of a session: it holds after any calls from a new one
   pub valid : (calls : List Call) → Valid (after newSession calls)
   -- "A refused file or call leaves survey, vehicle and answer list untouched."
@@ -74,21 +54,6 @@ pub record Demand1 : Type 0 where
   pub judge-keeps : (s : Session) (list : List ℕ) → judge s list .session ≡ s
   pub list-kept : (s : Session) (list : List ℕ) (n p : ℕ) →
       judge s list .answer ≡ RefusedAt n p → judgeList s list ≡ list
-
--- what rate and judge answer and write in a session in which both files are loaded, wherever the call succeeds
-pub record Answers (s : Session) : Type 0 where
-  pub rated : (i : ℕ) → i < s .survey .count → rate s (i + 1) .answer ≡ Values (ratingValues (ratingAt s i))
-  pub judged : (list : List ℕ) → 2 * s .survey .count ≤ length list →
-      judge s list .answer ≡ Values (judgementValues (judgementIn s))
-  pub listed : (list : List ℕ) → 2 * s .survey .count ≤ length list →
-      judgeList s list ≡ written (s .vehicle) (members s) list
-
--- the bridge's figure and governing member, in words: the least permitted load, and the first member that has it
-pub record Governs (ms : List Member) (v : Vehicle) (figure place : ℕ) : Type 0 where
-  pub least : (i : ℕ) → i < length ms → figure ≤ permittedFor v (memberAt ms i)
-  pub within : In (1 ‥ length ms) place
-  pub has : permittedFor v (memberAt ms (place - 1)) ≡ figure
-  pub first : (i : ℕ) → i + 1 < place → permittedFor v (memberAt ms i) ≡ figure → ⊥
 
 -- Demand 2.
 pub record Demand2 : Type 0 where
@@ -106,50 +71,6 @@ pub record Demand2 : Type 0 where
   -- the same on the bytes of both files
   pub files-judged : (survey vehicle : List ℕ) → AllowedSurveyFile survey → AllowedVehicleFile vehicle →
       judgeFiles survey vehicle .answer ≡ Values (judgementValues (judgementIn (record { survey = surveyOf survey; vehicle = vehicleOf vehicle })))
-
--- what the position with the front axle u half centimetres from an end gives, in one direction of travel and in the other
-module _ (m : Member) (v : Vehicle) where
-  abbrev pub oneWay : (u : ℕ) → Fraction
-  oneWay u = gives (influenceLine m .base) (influenceLine m .apex) (weight (v .weights)) (behind (v .distances)) (v .axles) u
-
-  abbrev pub otherWay : (u : ℕ) → Fraction
-  otherWay u = gives (influenceLine m .base) (influenceLine m .base - influenceLine m .apex) (weight (v .weights)) (behind (v .distances)) (v .axles) u
-
--- "The vehicle load is at least what every half-centimetre position in either direction gives, and less than one unit above the
--- greatest of these."
-pub record Covers (m : Member) (v : Vehicle) (load : ℕ) : Type 0 where
-  -- the divisors are above 0
-  pub sound : (u : ℕ) → (Sound (oneWay m v u)) × (Sound (otherWay m v u))
-  pub one-way : (u : ℕ) → oneWay m v u ⊑ whole load
-  pub other-way : (u : ℕ) → otherWay m v u ⊑ whole load
-  pub near : ((u : ℕ) × (whole load ⊏ oneWay m v u ⊕ whole 1)) ⊎ ((u : ℕ) × (whole load ⊏ otherWay m v u ⊕ whole 1))
-
--- the members' records of a survey file
-abbrev pub recordsOf : (survey : List ℕ) → List Member
-recordsOf survey = each (recordAt survey) (countOf survey)
-
--- what rate and judge answer and write in a session that holds two files, by these files' own records, and that the figures are those
--- of demand 3
-pub record FilesAnswered (s : Session) (survey vehicle : List ℕ) : Type 0 where
-  pub rated : (i : ℕ) → i < countOf survey →
-      rate s (i + 1) .answer ≡ Values (ratingValues (ratingOf (recordAt survey i) (vehicleOf vehicle)))
-  pub judged : (list : List ℕ) → 2 * countOf survey ≤ length list →
-      judge s list .answer ≡ Values (judgementValues (judgementOf (recordsOf survey) (vehicleOf vehicle)))
-  pub listed : (list : List ℕ) → 2 * countOf survey ≤ length list →
-      judgeList s list ≡ written (vehicleOf vehicle) (recordsOf survey) list
-  pub permitted-load : (i : ℕ) → i < countOf survey →
-      Permitted (formulaOf (recordAt survey i) (vehicleOf vehicle .class) (vehicleOf vehicle .track .0)) (permittedFor (vehicleOf vehicle) (recordAt survey i))
-  pub vehicle-load : (i : ℕ) → i < countOf survey →
-      Covers (recordAt survey i) (vehicleOf vehicle) (vehicleLoadOn (recordAt survey i) (vehicleOf vehicle))
-
--- of two sessions: "the permitted load of a shared member never rises, its vehicle load never falls, the bridge's figure never rises,
--- and no verdict, of a shared member or the bridge, turns from refuse to pass"
-pub record Falls (s s' : Session) : Type 0 where
-  pub permitted : (i : ℕ) → i < length (members s) → permittedAt s' i ≤ permittedAt s i
-  pub vehicle-load : (i : ℕ) → i < length (members s) → vehicleLoadAt s i ≤ vehicleLoadAt s' i
-  pub figure : judgementIn s' .figure .0 ≤ judgementIn s .figure .0
-  pub member-verdict : (i : ℕ) → i < length (members s) → ratingAt s i .verdict ≡ Refuse → ratingAt s' i .verdict ≡ Refuse
-  pub bridge-verdict : judgementIn s .verdict ≡ Refuse → judgementIn s' .verdict ≡ Refuse
 
 -- Demand 3.
 pub record Demand3 : Type 0 where

@@ -1,5 +1,5 @@
 -- Calls in a row, and the files that they leave in the session.
-use Prim.Native.Nat.{ℕ, _+_, _*_, _≤_, _<_}
+use Prim.Native.Nat.{ℕ}
 use mathlib.Core.Path.{_≡_}
 use mathlib.Core.List.{List, [], _∷_}
 use Rattle.session.specs.Answers.{Values}

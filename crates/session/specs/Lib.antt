@@ -1,4 +1,5 @@
 pub mod Answers
 pub mod Calls
 pub mod History
+pub mod Parts
 pub mod Demands
