@@ -13,6 +13,7 @@ HOST := --offline --manifest-path host/Cargo.toml
 # The crates whose exported functions a host links.
 EXPORTING := judgement exports
 MADE := $(CURDIR)/target/staticlib
+MAKE_LIBRARIES := for name in $(EXPORTING); do rt staticlib $$name; done
 
 run:
 	rt check bridge
@@ -25,13 +26,13 @@ run:
 test: lint
 	@log=$$(mktemp); trap 'rm -f "$$log"' EXIT; \
 	rt ci 2>&1 | tee "$$log"; \
-	$(MAKE) --no-print-directory libraries TBR_LIB_DIR=; \
+	$(MAKE_LIBRARIES); \
 	TBR_LIB_DIR=$(MADE) cargo test --release $(HOST); \
 	tail -n 1 "$$log"
 
 # The libraries that TBR_LIB_DIR names are taken as they are; else they are made.
 libraries:
-	@if [ -z "$(TBR_LIB_DIR)" ]; then for name in $(EXPORTING); do rt staticlib $$name; done; fi
+	@if [ -z "$(TBR_LIB_DIR)" ]; then $(MAKE_LIBRARIES); fi
 
 install: libraries
 	@folder="$(or $(TBR_LIB_DIR),$(MADE))"; \

@@ -15,14 +15,14 @@ loadFiles survey vehicle = andThen (loadSurvey newSession survey) (λ s. loadVeh
 abbrev pub judgeWith : (survey vehicle list : List ℕ) → Outcome
 judgeWith survey vehicle list = andThen (loadFiles survey vehicle) (λ s. judge s list)
 
--- a number or a list where a call succeeds, and what stands in for it where the call is refused
-abbrev pub unlessRefused : {A : Type 0} → Answer → (refused value : A) → A
-unlessRefused (Values values) refused value = value
-unlessRefused (RefusedAt number place) refused value = refused
+-- one of two by an answer: if it is a refusal the first, else the second
+abbrev pub ifRefused : {A : Type 0} → Answer → (then else : A) → A
+ifRefused (Values values) then else = else
+ifRefused (RefusedAt number place) then else = then
 
 -- the numbers of an answer, and the count of members where it is no refusal
 abbrev pub loadsOf : Answer → (count : ℕ) → Loads
-loadsOf a count = record { judged = numbersOf a; members = unlessRefused a 0 count }
+loadsOf a count = record { judged = numbersOf a; members = ifRefused a 0 count }
 
 unfoldable pub memberLoads : (survey vehicle list : List ℕ) → Loads
 memberLoads survey vehicle list =
@@ -31,4 +31,4 @@ memberLoads survey vehicle list =
 -- what the lent list then holds: "All refusals leave state and list as found."
 unfoldable pub memberList : (survey vehicle list : List ℕ) → List ℕ
 memberList survey vehicle list =
-    unlessRefused (loadFiles survey vehicle .answer) list (judgeList (loadFiles survey vehicle .session) list)
+    ifRefused (loadFiles survey vehicle .answer) list (judgeList (loadFiles survey vehicle .session) list)
