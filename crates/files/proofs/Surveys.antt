@@ -13,7 +13,7 @@ use Rattle.files.specs.Words.{wordAt}
 use Rattle.files.specs.Reading.{firstFault}
 use Rattle.files.specs.SurveyFile.{SURVEY-HEADER, RECORD, countOf, recordAt, surveyHeader, memberFault, recordFaults, surveyAnswer, blankMember, blankSurvey, surveyOf, surveyBy, readSurvey}
 use Rattle.files.specs.Allowed.{AllowedSurveyFile}
-use Rattle.files.specs.Refused.{SurveyRefusal}
+use Rattle.files.specs.Refused.{FirstRecord, SurveyRefusal}
 use Rattle.files.specs.declared.Refusal.{Refusal}
 use Rattle.files.specs.declared.Reading.{Reading}
 use Rattle.files.specs.declared.Reading.the-variants.{Taken, Refused}
@@ -99,24 +99,25 @@ module _ (bytes : List ℕ) where
   refusal-at r (suc i) e h =
       let fault : ℕ → ℕ = λ k. memberFault (recordAt bytes k) in
       let step : r .place - 0 ≡ suc i = omega arith in
-      let here : r .place - 1 ≡ i = omega arith in
       let within : i < countOf bytes = omega (arith, h .below, length-each fault (countOf bytes)) in
       let at : fault i ≡ r .number = sym (getD-each fault (countOf bytes) i 0 within) ∙ (rw step at (h .number)) in
       let named = member-named (recordAt bytes i) (r .number) at (h .fault) in
       let large = member-number named in
+      let first : (k : ℕ) → k ≡ i → FirstRecord bytes (r .number) k =
+      λ k same.
+      rw same
+      (record {
+        headed = headed 82 SURVEY-HEADER MOST-MEMBERS RECORD bytes (omega arith) (h .first 0 (omega arith));
+        within = within;
+        fault = named;
+        before = λ k b. clear-allowed (recordAt bytes k) (sym (getD-each fault (countOf bytes) k 0 (omega arith)) ∙ h .first (suc k) (omega arith));
+      }) in
       record {
         number = omega arith;
         header = λ l. absurd (omega arith);
         place = λ l. omega arith;
         header-fault = λ z. absurd (omega arith);
-        record-fault = λ l.
-            rw here
-            (record {
-              headed = headed 82 SURVEY-HEADER MOST-MEMBERS RECORD bytes (omega arith) (h .first 0 (omega arith));
-              within = within;
-              fault = named;
-              before = λ k b. clear-allowed (recordAt bytes k) (sym (getD-each fault (countOf bytes) k 0 (omega arith)) ∙ h .first (suc k) (omega arith));
-            });
+        record-fault = λ l. first _ (omega arith);
       }
 
   -- what it says of the file

@@ -18,7 +18,7 @@ use Rattle.files.specs.Header.{headerFault}
 use Rattle.member.specs.Fields.{MOST-AXLES}
 use Rattle.files.specs.VehicleFile.{VEHICLE-HEADER, AXLE, AXLE-FIELDS, WEIGHT, DISTANCE, axlesOf, classOf, trackOf, axleField, weightAt, distanceAt, axleRange, vehicleHeader, fieldWithin, axleWithin, axleFault, axleFaults, vehicleAnswer, blankVehicle, vehicleOf, vehicleBy, readVehicle}
 use Rattle.files.specs.Allowed.{AllowedVehicleFile}
-use Rattle.files.specs.Refused.{Headed, Fronted, FrontFault, wrong-header, wrong-class-or-track, VehicleRefusal}
+use Rattle.files.specs.Refused.{Headed, Fronted, FrontFault, wrong-header, wrong-class-or-track, FirstAxle, VehicleRefusal}
 use Rattle.files.specs.declared.Refusal.{Refusal}
 use Rattle.files.specs.declared.Reading.{Reading}
 use Rattle.files.specs.declared.Reading.the-variants.{Taken, Refused}
@@ -207,25 +207,24 @@ module _ (bytes : List ℕ) where
       }
   refusal-at r (suc i) e h =
       let step : r .place - 0 ≡ suc i = omega arith in
-      let here : r .place - 1 ≡ i = omega arith in
       let within : i < axlesOf bytes = omega (arith, h .below, length-each (axleFault bytes) (axlesOf bytes)) in
       let at : axleFault bytes i ≡ r .number = sym (getD-each (axleFault bytes) (axlesOf bytes) i 0 within) ∙ (rw step at (h .number)) in
       let named = axle-named bytes i (r .number) at (h .fault) in
+      let first : (k : ℕ) → k ≡ i → FirstAxle bytes k =
+      λ k same.
+      rw same
+      (record {
+        fronted = fronted bytes (h .first 0 (omega arith));
+        within = within;
+        fault = named .1;
+        before = λ k f b. axle-ranges bytes k (sym (getD-each (axleFault bytes) (axlesOf bytes) k 0 (omega arith)) ∙ h .first (suc k) (omega arith)) f;
+      }) in
       record {
         number = inr (named .0);
         header = λ l. absurd (omega (arith, named .0));
         place = omega arith;
         front-fault = λ z. absurd (omega arith);
-        axle-fault = λ l.
-            rw here (
-              named .0,
-              record {
-                fronted = fronted bytes (h .first 0 (omega arith));
-                within = within;
-                fault = named .1;
-                before = λ k f b. axle-ranges bytes k (sym (getD-each (axleFault bytes) (axlesOf bytes) k 0 (omega arith)) ∙ h .first (suc k) (omega arith)) f;
-              },
-            );
+        axle-fault = λ l. (named .0, first _ (omega arith));
       }
 
   -- what it says of the file
