@@ -105,7 +105,7 @@ load-factor-positive class = tenths-positive _ (omega (arith, load-factor-range 
 
 pub distribution-positive : (d E : ℕ) → 1 ≤ d → Positive (distribution d E)
 unfolding distribution
-distribution-positive d E h = over-positive (2 * d - min E d) (2 * d) (omega arith) (omega arith)
+distribution-positive d E h = over-positive _ _ (omega arith) (omega arith)
 
 pub modulus-sound : (m : Member) → Sound (sectionModulus m)
 unfolding sectionModulus

@@ -68,7 +68,7 @@ beam-caps n b h pn pb ph =
 pub sawn-modulus-sound : (w h side top n : ℕ) → Sound (sawnModulus w h side top n)
 unfolding sawnModulus whole
 sawn-modulus-sound w h side top n =
-    ÷-sound (whole 6) (·-sound (·-sound (whole-sound n) (whole-sound (w - side))) (square-sound (whole-sound (h - top)))) (omega arith)
+    ÷-sound _ (·-sound (·-sound (whole-sound _) (whole-sound _)) (square-sound (whole-sound _))) (omega arith)
 
 pub sawn-modulus-falls : (w h side side' top top' n : ℕ) → side ≤ side' → top ≤ top' → sawnModulus w h side' top' n ⊑ sawnModulus w h side top n
 unfolding sawnModulus
