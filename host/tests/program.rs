@@ -47,6 +47,15 @@ fn agree(input: &[u8], what: &str) {
     assert_eq!(printed(input), lines::printed(input), "{what}");
 }
 
+/// "For case A with the vehicle of case L it prints" these two lines.
+#[test]
+fn the_documents_own_lines() {
+    let (survey, vehicle) =
+        (include_bytes!("../../samples/case-a.tbr"), include_bytes!("../../samples/case-l.tbv"));
+    let input = [&survey[..], &vehicle[..]].concat();
+    assert_eq!(printed(&input), "1 1720 1200 pass\nbridge 1720 1 pass\n");
+}
+
 #[test]
 fn hundreds_of_bridges() {
     let seed = seed(0xb41_0001);

@@ -20,10 +20,12 @@ use Rattle.files.specs.declared.VehicleRead.{VehicleRead}
 use Rattle.files.proofs.Tests.{first-is}
 use Rattle.files.proofs.Faults.{refusal, head-first}
 use Rattle.session.specs.Answers.{Outcome}
-use Rattle.session.specs.Calls.{newSession, loadSurvey, loadVehicle}
+use Rattle.session.specs.Calls.{newSession, loadSurvey, loadVehicle, loadFiles, andThen}
 use Rattle.session.specs.declared.Session.{Session}
 use Rattle.bridge.specs.Input.{Bytes, ENOUGH, LoadedFrom, surveyLength, surveyPart, vehiclePart, loadInput}
-use Rattle.bridge.proofs.Loads.{then-same}
+
+then-same : (o : Outcome) (f g : Session → Outcome) → ((s : Session) → f s ≡ g s) → andThen o f ≡ andThen o g
+then-same o f g h = rw (h (o .session))
 
 -- the header's fault of a file that is longer than its count says
 longFault : (letter header most : ℕ) → List ℕ → ℕ
@@ -117,7 +119,7 @@ module _ (input : List ℕ) (n : ℕ) (bytes : Bytes input) (enough : ENOUGH ≤
 
   -- what the program keeps of its input is enough
   pub rest-changes-nothing : loadInput (take n input) ≡ loadInput input
-  unfolding loadInput
+  unfolding loadInput loadFiles
   rest-changes-nothing =
       rw survey-same
       (then-same (loadSurvey newSession (surveyPart input)) (λ s. loadVehicle s (vehiclePart (take n input))) (λ s. loadVehicle s (vehiclePart input)) load-same)

@@ -5,7 +5,7 @@ use mathlib.Core.Path.{_≡_}
 use mathlib.Core.List.{List}
 use lib.ListN.{length, take, drop}
 use Rattle.session.specs.Answers.{Outcome}
-use Rattle.session.specs.Calls.{newSession, loadSurvey, loadVehicle, andThen}
+use Rattle.session.specs.Calls.{loadFiles}
 use Rattle.files.specs.Words.{byteAt}
 use Rattle.files.specs.SurveyFile.{SURVEY-HEADER, RECORD, countOf}
 use Rattle.files.specs.VehicleFile.{VEHICLE-HEADER, AXLE}
@@ -20,9 +20,9 @@ surveyPart input = take (surveyLength input) input
 abbrev pub vehiclePart : List ℕ → List ℕ
 vehiclePart input = drop (surveyLength input) input
 
--- both loads from a new session, "the survey's refusal first": what is printed follows from this session and answer
+-- both loads, "the survey's refusal first": what is printed follows from this session and answer
 unfoldable pub loadInput : List ℕ → Outcome
-loadInput input = andThen (loadSurvey newSession (surveyPart input)) (λ s. loadVehicle s (vehiclePart input))
+loadInput input = loadFiles (surveyPart input) (vehiclePart input)
 
 -- a list of bytes
 abbrev pub Bytes : List ℕ → Type 0

@@ -5,9 +5,8 @@ ghost use lib.ListN.{length};
 ghost use Rattle.session.specs.Answers.{loaded};
 ghost use Rattle.session.specs.Calls.{Valid};
 ghost use Rattle.bridge.specs.Input.{ENOUGH, LoadedFrom, surveyLength, loadInput};
-use files::Reading;
 use session::AfterLoad;
-use session::Session;
+use session::load_files;
 
 // The survey's header, whose last byte is the count of records.
 const HEADER: usize = 6;
@@ -55,13 +54,5 @@ fn load_input(input: &[u8]) -> AfterLoad
     ensures valid { λ r. ⌜ Valid (r .session) ⌝ }
 {
     let n = survey_length(input);
-    let after = Session::new().load_survey(&input[..n]);
-    let answer = after.answer;
-    match answer {
-        Reading::Taken => {
-            let session = after.session;
-            session.load_vehicle(&input[n..])
-        }
-        Reading::Refused(_) => after,
-    }
+    load_files(&input[..n], &input[n..])
 }

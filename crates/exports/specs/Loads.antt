@@ -3,15 +3,11 @@
 use Prim.Native.Nat.{ℕ}
 use mathlib.Core.List.{List}
 use Rattle.session.specs.Answers.{Answer, Values, RefusedAt, Outcome}
-use Rattle.session.specs.Calls.{newSession, loadSurvey, loadVehicle, judge, judgeList, andThen}
+use Rattle.session.specs.Calls.{loadFiles, judge, judgeList, andThen}
 use Rattle.judgement.specs.Numbers.{numbersOf}
 use Rattle.exports.specs.declared.Loads.{Loads}
 
--- both loads, the survey's refusal before the vehicle's
-abbrev pub loadFiles : (survey vehicle : List ℕ) → Outcome
-loadFiles survey vehicle = andThen (loadSurvey newSession survey) (λ s. loadVehicle s vehicle)
-
--- then judge, with the lent list
+-- both loads, then judge with the lent list
 abbrev pub judgeWith : (survey vehicle list : List ℕ) → Outcome
 judgeWith survey vehicle list = andThen (loadFiles survey vehicle) (λ s. judge s list)
 

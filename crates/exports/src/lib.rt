@@ -9,7 +9,7 @@ use files::Reading;
 use judgement::Numbers;
 use judgement::numbers_of;
 use session::Judged;
-use session::Session;
+use session::load_files;
 
 // The numbers of the judgement, then the number of members, whose loads the list has; 0 members where anything is refused. The
 // host's declaration has the same fields in the same order.
@@ -53,19 +53,13 @@ pub extern "C" fn tbr_member_loads(survey: &[u8], vehicle: &[u8], list: &mut [u6
     ensures is { λ r. ⌜ r ≡ memberLoads (now (survey .entry)) (now (vehicle .entry)) (now (list .entry)) ⌝ }
     ensures list { λ r. ⌜ now (list .exit) ≡ memberList (now (survey .entry)) (now (vehicle .entry)) (now (list .entry)) ⌝ }
 {
-    let first = Session::new().load_survey(survey);
-    let taken = first.answer;
+    let both = load_files(survey, vehicle);
+    let taken = both.answer;
     if let Reading::Refused(refusal) = taken {
         return loads_of(Judged::Refused(refusal), 0);
     }
-    let surveyed = first.session;
-    let second = surveyed.load_vehicle(vehicle);
-    let taken = second.answer;
-    if let Reading::Refused(refusal) = taken {
-        return loads_of(Judged::Refused(refusal), 0);
-    }
-    let ready = second.session;
-    let third = ready.judge(list);
-    let answer = third.answer;
+    let session = both.session;
+    let judged = session.judge(list);
+    let answer = judged.answer;
     loads_of(answer, count_of(survey))
 }

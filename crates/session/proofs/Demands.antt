@@ -1,7 +1,7 @@
 -- The three demands hold: each part from the law of the crate whose matter it is, and from the cases of the calls' definitions.
 -- Assumes nothing.
 use Prim.Native.Nat.{ℕ, _+_, _*_, _≤_, _<_}
-use mathlib.Core.Path.{_≡_, refl, ap, subst, _∙_}
+use mathlib.Core.Path.{_≡_, refl, sym, ap, subst, _∙_}
 use mathlib.Core.Bool.{Bool, true, false, not}
 use mathlib.Core.List.{List, [], _∷_}
 use mathlib.Core.Logic.{_⊎_, inl, inr, ⊎-elim}
@@ -42,13 +42,13 @@ use Rattle.files.proofs.Tests.{first-is, rows-is, in-range, range-in, refutes}
 use Rattle.files.proofs.Surveys as surveys
 use Rattle.files.proofs.Vehicles as vehicles
 use Rattle.session.specs.Answers.{Outcome, Values, RefusedAt, refusedBy, judgementValues}
-use Rattle.session.specs.Calls.{newSession, members, stateFault, rateFault, judgeFault, loadSurvey, loadVehicle, storedSurvey, storedVehicle, unlessFault, rate, judge, judgeList, judgeFiles}
+use Rattle.session.specs.Calls.{newSession, members, stateFault, rateFault, judgeFault, loadSurvey, loadVehicle, storedSurvey, storedVehicle, unlessFault, rate, judge, judgeList, loadFiles, judgeFiles}
 use Rattle.session.specs.Demands.{Demand1, Demand2, Demand3}
 use Rattle.session.specs.Parts.{FromState, RefusedBoth, Answers, FilesAnswered, Covers, Falls, recordsOf}
 use Rattle.session.specs.History.{Holds, after}
 use Rattle.session.specs.declared.Session.{Session}
 use Rattle.session.proofs.History.{survey-stays, vehicle-stays, survey-last, last-held, in-turn, in-reverse, calls-valid}
-use Rattle.session.proofs.Loads.{never-both, reading-case, survey-read, vehicle-read, survey-load, vehicle-load, survey-refused, vehicle-refused}
+use Rattle.session.proofs.Loads.{never-both, reading-case, survey-read, vehicle-read, survey-load, vehicle-load, survey-refused, vehicle-refused, other-survey}
 use Rattle.session.proofs.State.{taken-survey-allowed, valid-new}
 
 -- a fault is an answer from the state, or there is none
@@ -166,7 +166,7 @@ all-answers s hm ha =
 
 files-answer : (survey vehicle : List ℕ) → AllowedSurveyFile survey → AllowedVehicleFile vehicle →
     judgeFiles survey vehicle .answer ≡ Values (judgementValues (judgementOf (members (record { survey = surveyOf survey; vehicle = vehicleOf vehicle })) (vehicleOf vehicle)))
-unfolding judgeFiles judge
+unfolding loadFiles judgeFiles judge
 files-answer survey vehicle a b =
     let e = surveys.allowed-taken survey a in
     let f = vehicles.allowed-taken vehicle b in
@@ -196,6 +196,18 @@ demand2 =
           };
       files-judged = files-answer;
     }
+
+-- both loads of two files: where they are taken the survey is allowed, and is what the session then holds
+pub files-held : (survey vehicle : List ℕ) → loadFiles survey vehicle .answer ≡ Values [] →
+    AllowedSurveyFile survey × (loadFiles survey vehicle .session .survey ≡ surveyOf survey)
+unfolding loadFiles
+files-held survey vehicle h =
+    ⊎-elim
+    (λ e.
+    let a = demand2 .survey-taken newSession survey .0 e in
+    (a, rw e (other-survey (loadSurvey newSession survey .session) vehicle ∙ ap (λ (s : Session). s .survey) (demand2 .survey-held newSession survey a))))
+    (λ f. never-both [] (f .0 .number) (f .0 .place) (sym (rw (f .1) at h)))
+    (demand1 .survey-answered newSession survey)
 
 -- what is held was taken, so it is allowed
 module _ {s : Session} {survey vehicle : List ℕ} (h : Holds s survey vehicle) where

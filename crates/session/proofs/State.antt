@@ -23,7 +23,7 @@ use Rattle.files.proofs.Tests.{none, passed, in-range}
 use Rattle.files.proofs.Surveys.{taken-count, taken-members}
 use Rattle.files.proofs.Vehicles.{taken-vehicle-allowed}
 use Rattle.session.specs.Answers.{loaded, judged, judgeAnswer, refusedBy}
-use Rattle.session.specs.Calls.{Valid, newSession, stateFault, rateFault, judgeFault, loadSurvey, loadVehicle, judge, judgeFiles}
+use Rattle.session.specs.Calls.{Valid, newSession, stateFault, rateFault, judgeFault, loadSurvey, loadVehicle, judge, loadFiles, judgeFiles}
 use Rattle.session.specs.declared.AfterJudge.{AfterJudge}
 use Rattle.session.specs.declared.AfterLoad.{AfterLoad}
 use Rattle.session.specs.declared.Session.{Session}
@@ -102,24 +102,26 @@ pub vehicle-kept : (s : Session) (bytes : List ℕ) (r : VehicleRead) (f : Refus
 unfolding loadVehicle
 vehicle-kept s bytes r f e t = rw (e, rw e at t)
 
--- the judgement on two files, by the answers of the loads
+-- both loads, by the answer of the first, and the judgement, by that of both
 module _ (survey vehicle : List ℕ) where
   pub first-refused : (o : AfterLoad) (f : Refusal) → loaded o ≡ loadSurvey newSession survey → o .answer ≡ Refused f →
-      refusedBy f ≡ judgeFiles survey vehicle .answer
-  unfolding judgeFiles
+      loaded o ≡ loadFiles survey vehicle
+  unfolding loadFiles
   first-refused o f e t = rw (← e, t)
 
-  pub second-refused : (o p : AfterLoad) (f : Refusal) → loaded o ≡ loadSurvey newSession survey → o .answer ≡ Taken →
+  pub second-loaded : (o p : AfterLoad) → loaded o ≡ loadSurvey newSession survey → o .answer ≡ Taken →
       loaded p ≡ loadVehicle (o .session) vehicle →
-      p .answer ≡ Refused f →
+      loaded p ≡ loadFiles survey vehicle
+  unfolding loadFiles
+  second-loaded o p e t h = rw (h, ← e, t)
+
+  pub files-refused : (o : AfterLoad) (f : Refusal) → loaded o ≡ loadFiles survey vehicle → o .answer ≡ Refused f →
       refusedBy f ≡ judgeFiles survey vehicle .answer
   unfolding judgeFiles
-  second-refused o p f e t h u = rw (← e, t, ← h, u)
+  files-refused o f e t = rw (← e, t)
 
-  pub both-taken : (o p : AfterLoad) (r : AfterJudge) → loaded o ≡ loadSurvey newSession survey → o .answer ≡ Taken →
-      loaded p ≡ loadVehicle (o .session) vehicle →
-      p .answer ≡ Taken →
-      judged r ≡ judge (p .session) (replicate (2 * MOST-MEMBERS) 0) →
+  pub files-taken : (o : AfterLoad) (r : AfterJudge) → loaded o ≡ loadFiles survey vehicle → o .answer ≡ Taken →
+      judged r ≡ judge (o .session) (replicate (2 * MOST-MEMBERS) 0) →
       judgeAnswer (r .answer) ≡ judgeFiles survey vehicle .answer
   unfolding judgeFiles
-  both-taken o p r e t h u j = rw (← e, t, ← h, u, ← j)
+  files-taken o r e t j = rw (← e, t, ← j)

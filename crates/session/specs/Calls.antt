@@ -96,6 +96,9 @@ unlessRefused (RefusedAt number place) refused next = refused
 abbrev pub andThen : Outcome → (Session → Outcome) → Outcome
 andThen o call = unlessRefused (o .answer) o (call (o .session))
 
+-- both loads from a new session
+unfoldable pub loadFiles : (survey vehicle : List ℕ) → Outcome
+loadFiles survey vehicle = andThen (loadSurvey newSession survey) (λ s. loadVehicle s vehicle)
+
 unfoldable pub judgeFiles : (survey vehicle : List ℕ) → Outcome
-judgeFiles survey vehicle =
-    andThen (loadSurvey newSession survey) (λ s. andThen (loadVehicle s vehicle) (λ t. judge t (replicate (2 * MOST-MEMBERS) 0)))
+judgeFiles survey vehicle = andThen (loadFiles survey vehicle) (λ s. judge s (replicate (2 * MOST-MEMBERS) 0))

@@ -4,7 +4,7 @@ ghost use mathlib.Core.Path.{_≡_};
 ghost use Rattle.session.specs.Answers.{loaded, rated, judged, judgeAnswer};
 ghost use Prim.Native.Nat.{_≤_};
 ghost use Rattle.member.specs.Fields.{MOST-MEMBERS};
-ghost use Rattle.session.specs.Calls.{Valid, newSession, loadSurvey, loadVehicle, stateFault, rateFault, judgeFault, rate, judge, judgeList, judgeFiles};
+ghost use Rattle.session.specs.Calls.{Valid, newSession, loadSurvey, loadVehicle, stateFault, rateFault, judgeFault, rate, judge, judgeList, loadFiles, judgeFiles};
 use files::Reading;
 use files::Refusal;
 use files::survey::blank_survey;
@@ -203,24 +203,33 @@ impl Session {
     }
 }
 
-// The judgement on the bytes of a survey file and a vehicle file: the refusal of the first that is refused, or figure, governing
-// place and verdict.
+// Loads a survey file and a vehicle file into a new session: the refusal of the first that is refused, or both taken.
+pub fn load_files(survey: &[u8], vehicle: &[u8]) -> AfterLoad
+    ensures is { λ r. ⌜ loaded r ≡ loadFiles (now (survey .entry)) (now (vehicle .entry)) ⌝ }
+    ensures valid { λ r. ⌜ Valid (r .session) ⌝ }
+{
+    let first = Session::new().load_survey(survey);
+    let answer = first.answer;
+    match answer {
+        Reading::Taken => {
+            let session = first.session;
+            session.load_vehicle(vehicle)
+        }
+        Reading::Refused(_) => first,
+    }
+}
+
+// The judgement on the bytes of both files: the refusal of the first that is refused, or figure, governing place and verdict.
 pub fn judge_files(survey: &[u8], vehicle: &[u8]) -> Judged
     ensures { λ r. ⌜ judgeAnswer r ≡ judgeFiles (now (survey .entry)) (now (vehicle .entry)) .answer ⌝ }
 {
-    let first = Session::new().load_survey(survey);
-    let taken = first.answer;
-    if let Reading::Refused(refusal) = taken {
-        return Judged::Refused(refusal);
-    }
-    let surveyed = first.session;
-    let second = surveyed.load_vehicle(vehicle);
-    let taken = second.answer;
-    if let Reading::Refused(refusal) = taken {
+    let both = load_files(survey, vehicle);
+    let answer = both.answer;
+    if let Reading::Refused(refusal) = answer {
         return Judged::Refused(refusal);
     }
     let mut list = [0u64; 2 * MOST_MEMBERS];
-    let ready = second.session;
-    let third = ready.judge(&mut list);
-    third.answer
+    let session = both.session;
+    let judged = session.judge(&mut list);
+    judged.answer
 }
