@@ -101,17 +101,6 @@ module _ {U P n : ℕ} {ws : List Kgf} {ds : List Cm} (h : Bounded U P n ws ds) 
   apex-top-cap =
       of-top (λ m. m ≤ 20000000000000 * n) _ n (omega arith) (λ j l. sum-cap n (P + behind ds j) (omega arith))
 
-  -- the axles ahead of one
-  pub bounded-ahead : (m : ℕ) → m ≤ n → Bounded U P m ws ds
-  bounded-ahead m l =
-      record {
-        triangle = h .triangle;
-        base = h .base;
-        axles = omega arith;
-        weights = λ i k. h .weights i (omega arith);
-        distances = λ i k. h .distances i (omega arith);
-      }
-
   -- the same axles from the other end
   pub mirrored-bounded : Bounded U (U - P) n ws ds
   mirrored-bounded =

@@ -1,11 +1,11 @@
 // The influence line: the greatest that a row of axles gives on a triangle, over every position. Only the positions that
 // put an axle over the apex are tried, in both directions of travel; proofs/Apex.antt shows that they are enough.
 ghost use mathlib.Core.Path.{_≡_};
-ghost use Prim.Native.Nat.{_-_, _*_, _≤_, _<_, max};
+ghost use Prim.Native.Nat.{_+_, _-_, _*_, _≤_, _<_, max};
 ghost use Rattle.section.specs.Fraction.{over, ceiling};
 ghost use Rattle.section.specs.Units.{weight};
 ghost use Rattle.influence.specs.Influence.{Triangle, perMetre, behind, vehicleLoad};
-ghost use Rattle.influence.specs.Scaled.{scaledHeight, scaledSum, apexTop};
+ghost use Rattle.influence.specs.Scaled.{scaledHeight, apexTop};
 ghost use Rattle.influence.specs.Bounds.{Bounded};
 use section::Cm;
 use section::Kgf;
@@ -33,6 +33,14 @@ pub fn half_of(l: Cm) -> HalfCm
     HalfCm(l.0)
 }
 
+// `b` further than `a`, of which neither lies beyond the longest base and the longest vehicle.
+fn further(a: HalfCm, b: HalfCm) -> HalfCm
+    requires { ⌜ (a .0 ≤ 80000) × (b .0 ≤ 80000) ⌝ }
+    ensures { λ r. ⌜ r .0 ≡ a .0 + b .0 ⌝ }
+{
+    HalfCm(a.0 + b.0)
+}
+
 // How far `a` lies beyond `b`, 0 where it does not.
 fn beyond(a: HalfCm, b: HalfCm) -> HalfCm
     ensures { λ r. ⌜ r .0 ≡ a .0 - b .0 ⌝ }
@@ -58,34 +66,8 @@ fn scaled_height(base: HalfCm, apex: HalfCm, place: HalfCm) -> u64
     }
 }
 
-// The sum of weight × scaled height, with the front axle at `front`.
-fn sum_at(
-    base: HalfCm,
-    apex: HalfCm,
-    axles: usize,
-    weights: [Kgf; 16],
-    distances: [Cm; 16],
-    front: HalfCm,
-) -> ScaledSum
-    requires { ⌜ Bounded (base .0) (apex .0) axles weights distances ⌝ }
-    ensures { λ r. ⌜ r .0 ≡ scaledSum (base .0) (apex .0) (weight weights) (behind distances) axles (front .0) ⌝ }
-{
-    let mut sum: u64 = 0;
-    let mut place = front;
-    let mut i = 0;
-    while i < axles {
-        place = beyond(place, half_cm(distances[i]));
-        // This axle and all behind it are not on the base yet.
-        if place.0 == 0 {
-            return ScaledSum(sum);
-        }
-        sum += weights[i].0 * scaled_height(base, apex, place);
-        i += 1;
-    }
-    ScaledSum(sum)
-}
-
-// The greatest of the sums that put an axle over the apex.
+// The greatest of the sums that put an axle over the apex. Both loops stand here, since a function for the sum of one position
+// would have the rows of axles copied for each of them.
 fn apex_top(
     base: HalfCm,
     apex: HalfCm,
@@ -100,10 +82,20 @@ fn apex_top(
     let mut front = apex;
     let mut j = 0;
     while j < axles {
-        let place = front.0 + half_cm(distances[j]).0;
-        front = HalfCm(place);
-        let sum = sum_at(base, apex, axles, weights, distances, front);
-        top = greater(top, sum);
+        front = further(front, half_cm(distances[j]));
+        let mut sum: u64 = 0;
+        let mut place = front;
+        let mut i = 0;
+        while i < axles {
+            place = beyond(place, half_cm(distances[i]));
+            // This axle and all behind it are not on the base yet.
+            if place.0 == 0 {
+                break;
+            }
+            sum += weights[i].0 * scaled_height(base, apex, place);
+            i += 1;
+        }
+        top = greater(top, ScaledSum(sum));
         j += 1;
     }
     top
