@@ -2,8 +2,8 @@
 -- "fills a lent list of u64 with permitted load and vehicle load, two numbers a member; entries beyond are kept".
 use Prim.Native.Nat.{ℕ}
 use mathlib.Core.List.{List}
-use Rattle.session.specs.Answers.{Answer, Values, RefusedAt, Outcome}
-use Rattle.session.specs.Calls.{loadFiles, judge, judgeList, andThen}
+use Rattle.session.specs.Answers.{Answer, Outcome}
+use Rattle.session.specs.Calls.{loadFiles, judge, judgeList, unlessRefused, andThen}
 use Rattle.judgement.specs.Numbers.{numbersOf}
 use Rattle.exports.specs.declared.Loads.{Loads}
 
@@ -11,14 +11,9 @@ use Rattle.exports.specs.declared.Loads.{Loads}
 abbrev pub judgeWith : (survey vehicle list : List ℕ) → Outcome
 judgeWith survey vehicle list = andThen (loadFiles survey vehicle) (λ s. judge s list)
 
--- one of two by an answer: if it is a refusal the first, else the second
-abbrev pub ifRefused : {A : Type 0} → Answer → (then else : A) → A
-ifRefused (Values values) then else = else
-ifRefused (RefusedAt number place) then else = then
-
 -- the numbers of an answer, and the count of members where it is no refusal
 abbrev pub loadsOf : Answer → (count : ℕ) → Loads
-loadsOf a count = record { judged = numbersOf a; members = ifRefused a 0 count }
+loadsOf a count = record { judged = numbersOf a; members = unlessRefused a 0 count }
 
 unfoldable pub memberLoads : (survey vehicle list : List ℕ) → Loads
 memberLoads survey vehicle list =
@@ -27,4 +22,4 @@ memberLoads survey vehicle list =
 -- what the lent list then holds: "All refusals leave state and list as found."
 unfoldable pub memberList : (survey vehicle list : List ℕ) → List ℕ
 memberList survey vehicle list =
-    ifRefused (loadFiles survey vehicle .answer) list (judgeList (loadFiles survey vehicle .session) list)
+    unlessRefused (loadFiles survey vehicle .answer) list (judgeList (loadFiles survey vehicle .session) list)

@@ -142,8 +142,7 @@ pub fn vehicle_load(
     requires { ⌜ Bounded (base .0) (apex .0) axles weights distances ⌝ }
     ensures { λ r. ⌜ r .0 ≡ vehicleLoad (base .0) (apex .0) weights distances axles ⌝ }
 {
-    let other_end = base.0 - apex.0;
-    let mirrored = HalfCm(other_end);
+    let mirrored = beyond(base, apex);
     let one_way = apex_top(base, apex, axles, weights, distances);
     let other_way = other_top(base, apex, mirrored, one_way, axles, weights, distances);
     per_metre(base, apex, greater(one_way, other_way))

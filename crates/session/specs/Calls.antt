@@ -87,18 +87,19 @@ unfoldable pub judgeList : Session → (list : List ℕ) → List ℕ
 judgeList s list =
     choose (eqb (judgeFault (s .survey .count) (s .vehicle .axles) (length list)) 0) (written (s .vehicle) (members s) list) list
 
--- "calls the judgement on the bytes of both files. It gets the number and place of a refusal, the survey's before the vehicle's, or
--- figure, governing place and verdict": load, load and judge from a new session, with a list long enough for any survey
-abbrev pub unlessRefused : Answer → (refused next : Outcome) → Outcome
+-- by an answer: the first where it is a refusal, else the second
+abbrev pub unlessRefused : {A : Type 0} → Answer → (refused next : A) → A
 unlessRefused (Values values) refused next = next
 unlessRefused (RefusedAt number place) refused next = refused
 
 abbrev pub andThen : Outcome → (Session → Outcome) → Outcome
 andThen o call = unlessRefused (o .answer) o (call (o .session))
 
--- both loads from a new session
+-- both loads from a new session, "the survey's before the vehicle's"
 unfoldable pub loadFiles : (survey vehicle : List ℕ) → Outcome
 loadFiles survey vehicle = andThen (loadSurvey newSession survey) (λ s. loadVehicle s vehicle)
 
+-- "calls the judgement on the bytes of both files. It gets the number and place of a refusal, the survey's before the vehicle's, or
+-- figure, governing place and verdict": with a list long enough for any survey
 unfoldable pub judgeFiles : (survey vehicle : List ℕ) → Outcome
 judgeFiles survey vehicle = andThen (loadFiles survey vehicle) (λ s. judge s (replicate (2 * MOST-MEMBERS) 0))
