@@ -8,7 +8,8 @@ use borrow.Author.Tests.{eqb-true, eq-eqb, ne-eqb, not-false}
 use Rattle.member.specs.declared.record.Member.{Member}
 use Rattle.member.specs.Fields.{KIND, SPAN, CODE, MU-A, MU-B, FIELDS, field}
 use Rattle.member.specs.Format.{In, rangeOf}
-use Rattle.files.specs.Reading.{isIn, all}
+use Rattle.section.specs.Choose.{all}
+use Rattle.files.specs.Reading.{isIn}
 use Rattle.files.specs.Refused.{uses}
 use Rattle.files.specs.SurveyFile.{zeroed, within, codeFault, fieldFault, memberFault}
 use Rattle.files.proofs.Tests.{either, neither, in-range, range-in, all-fails}

@@ -12,11 +12,13 @@ use borrow.Author.Tests.{leb-true, le-leb}
 use Rattle.member.specs.declared.record.Member.{Member}
 use Rattle.member.specs.Fields.{KIND, SPECIES, SPAN, CODE, MU-A, MU-B, FIELDS, field}
 use Rattle.member.specs.Format.{_‥_, In, ranges, rangeOf, suits, AllowedMember}
-use Rattle.files.specs.Reading.{_unless_, firstOf, isIn, all}
+use Rattle.section.specs.Choose.{all}
+use Rattle.files.specs.Reading.{_unless_, firstOf, isIn}
 use Rattle.files.specs.Refused.{uses, KindGood, SpeciesGood, SectionGood, UnusedGood, MemberFault, wrong-kind, wrong-species, wrong-section, not-0, out-of-range, A-above-B}
 use Rattle.files.specs.SurveyFile.{zeroed, within, codeFault, fieldFault, memberFault}
 use Rattle.files.proofs.Members.{zeroed-good, zeroed-bad, zeroed-holds, within-good, within-bad, within-holds, code-first, unused-next, range-last, no-fault}
-use Rattle.files.proofs.Tests.{in-range, range-in, refuted, refutes, all-at, all-of, all-failing, all-fails}
+use Rattle.section.proofs.Table.{all-at}
+use Rattle.files.proofs.Tests.{in-range, range-in, refuted, refutes, all-of, all-failing, all-fails}
 
 module _ (m : Member) where
   -- the species' range is the same in every record

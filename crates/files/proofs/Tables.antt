@@ -9,26 +9,23 @@ use lib.ListN.{getD}
 use lib.Dec.{eqb, leb}
 use borrow.Author.Tests.{eqb-true, ne-eqb}
 use Rattle.member.specs.Format.{Range, _‥_, In, rangeOf, ranges, sectionRange, sectionRanges}
-use Rattle.files.specs.Reading.{all}
-use Rattle.files.proofs.Tests.{all-at, either}
+use Rattle.member.specs.Fields.{LAST-CODE}
+use Rattle.section.specs.Choose.{all}
+use Rattle.section.proofs.Table.{all-at, laidOut, entry}
+use Rattle.files.proofs.Tests.{either}
 
 -- s1 to s6: the table's rows are the codes, from 0; `side` is the low or the high end
-abbrev pub sectionTest : (side : Range → ℕ) (table : List ℕ) (c s : ℕ) → Bool
-sectionTest side table c s = eqb (getD table (6 * c + s) 0) (side (sectionRange (suc c) s))
-
-pub section-entry : (side : Range → ℕ) (table : List ℕ) → all (λ c. all (sectionTest side table c) 6) 4 ≡ true → (code s : ℕ) → In (1 ‥ 4) code → s < 6 → getD table (6 * (code - 1) + s) 0 ≡ side (sectionRange code s)
+pub section-entry : (side : Range → ℕ) (table : List ℕ) → laidOut 6 LAST-CODE table (λ c s. side (sectionRange (suc c) s)) ≡ true → (code s : ℕ) → In (1 ‥ LAST-CODE) code → s < 6 → getD table (6 * (code - 1) + s) 0 ≡ side (sectionRange code s)
 section-entry side table agree code s hc hs =
-    let ec : suc (code - 1) ≡ code = omega arith in
-    let by-field = all-at (λ c. all (sectionTest side table c) 6) 4 agree (code - 1) (omega arith) in
-    let t = all-at (sectionTest side table (code - 1)) 6 by-field s hs in
-    eqb-true _ _ (rw ec at t)
+    let there : suc (code - 1) ≡ code = omega arith in
+    rw there at (entry 6 LAST-CODE table (λ c s. side (sectionRange (suc c) s)) agree (code - 1) s (omega arith) hs)
 
 -- any other code has no section fields
-pub no-section : (code s : ℕ) → (In (1 ‥ 4) code → ⊥) → sectionRange code s ≡ 0 ‥ 0
+pub no-section : (code s : ℕ) → (In (1 ‥ LAST-CODE) code → ⊥) → sectionRange code s ≡ 0 ‥ 0
 unfolding sectionRange sectionRanges
 no-section code s h =
     rw
-    (ne-eqb code 1 (λ e. h (omega arith)), ne-eqb code 2 (λ e. h (omega arith)), ne-eqb code 3 (λ e. h (omega arith)), ne-eqb code 4 (λ e. h (omega arith)))
+    (ne-eqb code 1 (λ e. h (omega arith)), ne-eqb code 2 (λ e. h (omega arith)), ne-eqb code 3 (λ e. h (omega arith)), ne-eqb code 4 (λ e. h (omega arith)), ne-eqb code 5 (λ e. h (omega arith)))
 
 -- the section fields stand at 8 to 13
 pub section-field : (kind code l f : ℕ) → 8 ≤ f → f ≤ 13 → rangeOf kind code l f ≡ sectionRange code (f - 8)

@@ -8,9 +8,10 @@ use native.Mathlib.Omega.{arith}
 use native.Mathlib.Decide.{decLt}
 use lib.Dec.{eqb, leb}
 use borrow.Author.Tests.{leb-true, le-leb, eqb-true, not-true, not-false}
-use Rattle.section.specs.Choose.{choose}
+use Rattle.section.specs.Choose.{choose, all}
+use Rattle.section.proofs.Table.{all-at}
 use Rattle.member.specs.Format.{Range, In}
-use Rattle.files.specs.Reading.{_unless_, firstOf, isIn, all}
+use Rattle.files.specs.Reading.{_unless_, firstOf, isIn}
 
 pub both : (a b : Bool) → (a && b) ≡ true → (a ≡ true) × (b ≡ true)
 both true b e = (refl, e)
@@ -39,15 +40,6 @@ pub range-in : (r : Range) (n : ℕ) → In r n → isIn r n ≡ true
 range-in r n h = rw (le-leb _ _ (h .0)) (le-leb _ _ (h .1))
 
 module _ (test : ℕ → Bool) where
-  -- a test that holds of every index holds of each
-  pub all-at : (n : ℕ) → all test n ≡ true → (i : ℕ) → i < n → test i ≡ true
-  all-at zero e i h = absurd (omega arith)
-  all-at (suc n) e i h = go (decLt i n) (all-at n (both (all test n) (test n) e .0) i)
-    where
-      go : Dec (i < n) → (i < n → test i ≡ true) → test i ≡ true
-      go (yes l) below = below l
-      go (no ge) below = let at : i ≡ n = omega arith in rw at (both (all test n) (test n) e .1)
-
   pub all-of : (n : ℕ) → ((i : ℕ) → i < n → test i ≡ true) → all test n ≡ true
   all-of zero h = refl
   all-of (suc n) h = rw (all-of n (λ i l. h i (omega arith)), h n (omega arith))
@@ -67,7 +59,7 @@ module _ (test : ℕ → Bool) where
     where
       go : (b : Bool) → all test n ≡ b → all test n ≡ false
       go false f = f
-      go true t = let at : test i ≡ true = all-at n t i h in let z : _≡_ {A = ℕ} 0 1 = cc in absurd (omega arith)
+      go true t = let at : test i ≡ true = all-at test n t i h in let z : _≡_ {A = ℕ} 0 1 = cc in absurd (omega arith)
 
 -- no fault: the test holds
 pub passed : (n : ℕ) (test : Bool) → 0 < n → n unless test ≡ 0 → test ≡ true

@@ -23,7 +23,8 @@ use Rattle.files.specs.declared.Refusal.{Refusal}
 use Rattle.files.specs.declared.Reading.{Reading}
 use Rattle.files.specs.declared.Reading.the-variants.{Taken, Refused}
 use Rattle.files.specs.declared.VehicleRead.{VehicleRead}
-use Rattle.files.proofs.Tests.{in-range, range-in, refuted, refutes, all-at, all-of, all-failing, all-fails, passed}
+use Rattle.section.proofs.Table.{all-at}
+use Rattle.files.proofs.Tests.{in-range, range-in, refuted, refutes, all-of, all-failing, all-fails, passed}
 use Rattle.files.proofs.Each.{length-each, getD-each, getD-padded}
 use Rattle.files.proofs.Faults.{refusal, head-first, head-clear, fault-at, taken-none, none-taken, FaultAt, refused-at}
 use Rattle.files.proofs.Headers.{headed, header-clear, header-named, header-is, header-number}

@@ -28,11 +28,6 @@ firstFault place (n ∷ ns) = choose (eqb n 0) (firstFault (suc place) ns) (Refu
 abbrev pub isIn : Range → ℕ → Bool
 isIn r n = leb (r .low) n && leb n (r .high)
 
--- a test holds of every index below n
-abbrev pub all : (ℕ → Bool) → ℕ → Bool
-all test zero = true
-all test (suc n) = all test n && test n
-
 -- the number and the place of an answer, 0 and 0 where the file is taken
 abbrev pub numberOf : Reading → ℕ
 numberOf Taken = 0

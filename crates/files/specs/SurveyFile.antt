@@ -10,7 +10,8 @@ use Rattle.member.specs.declared.record.Survey.{Survey}
 use Rattle.member.specs.Fields.{KIND, SPECIES, SPAN, CODE, MU-A, MU-B, FIELDS, MOST-MEMBERS, field}
 use Rattle.member.specs.Format.{_‥_, used, rangeOf, suits}
 use Rattle.files.specs.Words.{byteAt, words, each}
-use Rattle.files.specs.Reading.{_unless_, firstOf, firstFault, isIn, all}
+use Rattle.section.specs.Choose.{all}
+use Rattle.files.specs.Reading.{_unless_, firstOf, firstFault, isIn}
 use Rattle.files.specs.Header.{headerFault}
 use Rattle.files.specs.declared.Reading.{Reading}
 use Rattle.files.specs.declared.Reading.the-variants.{Taken, Refused}

@@ -8,11 +8,11 @@ use lib.ListN.{replicate}
 use lib.Dec.{eqb}
 use Rattle.member.specs.declared.record.Vehicle.{Vehicle}
 use Rattle.member.specs.Fields.{MOST-AXLES}
-use Rattle.section.specs.Choose.{choose}
+use Rattle.section.specs.Choose.{choose, all}
 use Rattle.section.specs.Units.{centimetres, kgf}
 use Rattle.member.specs.Format.{Range, _‥_, classRange, trackRange, weightRange, laterRange}
 use Rattle.files.specs.Words.{byteAt, wordAt, each}
-use Rattle.files.specs.Reading.{_unless_, firstOf, firstFault, isIn, all}
+use Rattle.files.specs.Reading.{_unless_, firstOf, firstFault, isIn}
 use Rattle.files.specs.Header.{headerFault}
 use Rattle.files.specs.declared.Reading.{Reading}
 use Rattle.files.specs.declared.Reading.the-variants.{Taken, Refused}

@@ -1,4 +1,4 @@
-// The tables of document 01: which section suits a kind, which fields a record uses, and the ranges of those and of an axle's.
+// The tables of documents 01 and 02: which section suits a kind, which fields a record uses, and the ranges of those and of an axle's.
 use crate::words::wider;
 use member::record::DISTANCE;
 use member::record::HEIGHT;
@@ -29,7 +29,7 @@ const HIGH: [u32; 16] = [
     0,
     500, // h
     10000, // q
-    4, // code
+    5, // code
     0,
     0,
     0,
@@ -41,7 +41,7 @@ const HIGH: [u32; 16] = [
 ];
 
 // The ranges of s1 to s6, six for each code; 0 for what a code lacks.
-const SECTION_LOW: [u32; 24] = [
+const SECTION_LOW: [u32; 30] = [
     13, // log, diameter
     0, // rot
     1, // tiers
@@ -66,9 +66,15 @@ const SECTION_LOW: [u32; 24] = [
     0,
     0,
     0,
+    14, // crescent, diameter
+    0, // depth
+    1, // tiers
+    0,
+    0,
+    0,
 ];
 
-const SECTION_HIGH: [u32; 24] = [
+const SECTION_HIGH: [u32; 30] = [
     39, // log, diameter
     60, // rot
     3, // tiers
@@ -93,9 +99,15 @@ const SECTION_HIGH: [u32; 24] = [
     0,
     0,
     0,
+    36, // crescent, diameter
+    60, // depth
+    3, // tiers
+    0,
+    0,
+    0,
 ];
 
-const LAST_CODE: u16 = 4;
+const LAST_CODE: u16 = 5;
 
 // The field of an axle that holds its weight; the other holds its distance.
 pub const WEIGHT: usize = 0;
@@ -124,7 +136,8 @@ pub fn suits_kind(kind: u16, code: u16) -> bool
     if kind <= 2 {
         let log = code == 1;
         let sawn = code == 2;
-        return log | sawn;
+        let crescent = code == 5;
+        return log | sawn | crescent;
     }
     if kind == 3 {
         return code == 2;
@@ -171,6 +184,9 @@ fn unused_by_code(kind: u16, code: u16, field: usize) -> bool
     }
     if code == 4 {
         return (field == S3) | last;
+    }
+    if code == 5 {
+        return last;
     }
     false
 }

@@ -1,17 +1,18 @@
 -- What an allowed record's numbers keep to, read off its kind and code: a test that antt computes over the codes that suit the
 -- kind, and the range of the field.
 -- Assumes nothing.
-use Prim.Native.Nat.{ℕ, _≤_, _<_}
+use Prim.Native.Nat.{ℕ, suc, _-_, _≤_, _<_}
 use mathlib.Core.Path.{_≡_, refl, subst, subst₂}
-use mathlib.Core.Bool.{Bool, true, false, _&&_, _||_, and-eq-true-iff}
+use mathlib.Core.Bool.{Bool, true, false, _||_}
 use mathlib.Core.Logic.{⊎-elim, _⊎_, inl, inr}
 use native.Mathlib.Decide.{decLe}
 use native.Mathlib.Omega.{arith}
 use lib.Dec.{eqb, leb}
 use borrow.Author.Tests.{eqb-true, le-leb, lt-leb, ne-eqb}
-use Rattle.section.specs.Choose.{choose}
-use Rattle.member.specs.Fields.{KIND, SPECIES, SPAN, SPACING, DISTANCE, HEIGHT, DEAD-LOAD, CODE, S1, S2, S3, S4, S5, S6, MU-A, MU-B, FIELDS, field}
-use Rattle.member.specs.Format.{AllowedMember, In, used, unusedByKind, unusedByCode, ranges, rangeOf, sectionRange, sectionRanges, suits, bending}
+use Rattle.section.specs.Choose.{choose, all}
+use Rattle.section.proofs.Table.{all-at}
+use Rattle.member.specs.Fields.{KIND, SPECIES, SPAN, SPACING, DISTANCE, HEIGHT, DEAD-LOAD, CODE, S1, S2, S3, S4, S5, S6, MU-A, MU-B, FIELDS, LAST-CODE, field}
+use Rattle.member.specs.Format.{AllowedMember, Range, _‥_, In, used, unusedByKind, unusedByCode, ranges, rangeOf, sectionRange, sectionRanges, suits, bending}
 use Rattle.member.specs.declared.record.Member.{Member}
 
 -- what holds at every code that suits a kind
@@ -20,8 +21,7 @@ implies true b = b
 implies false b = true
 
 abbrev pub everyCode : (kind : ℕ) → (ℕ → Bool) → Bool
-everyCode kind P =
-    implies (suits kind 1) (P 1) && (implies (suits kind 2) (P 2) && (implies (suits kind 3) (P 3) && implies (suits kind 4) (P 4)))
+everyCode kind P = all (λ c. implies (suits kind (suc c)) (P (suc c))) LAST-CODE
 
 met : (a b : Bool) → implies a b ≡ true → a ≡ true → b ≡ true
 met true b h e = h
@@ -31,30 +31,36 @@ either : (a b : Bool) → (a || b) ≡ true → (a ≡ true) ⊎ (b ≡ true)
 either true b h = inl refl
 either false b h = inr h
 
--- a code that suits a kind is one of the four
-pub one-of-four : (kind code : ℕ) → suits kind code ≡ true → ((code ≡ 1) ⊎ (code ≡ 2)) ⊎ ((code ≡ 3) ⊎ (code ≡ 4))
+-- a code that suits a kind in bending
+in-bending-is : {P : Type 0} (code : ℕ) → (eqb code 1 || eqb code 2 || eqb code 5) ≡ true → (code ≡ 1 → P) → (code ≡ 2 → P) → (code ≡ 5 → P) → P
+in-bending-is code h p1 p2 p5 =
+    ⊎-elim (λ t. ⊎-elim (λ e. p1 (eqb-true _ _ e)) (λ e. p2 (eqb-true _ _ e)) (either (eqb code 1) (eqb code 2) t)) (λ e. p5 (eqb-true _ _ e))
+    (either (eqb code 1 || eqb code 2) (eqb code 5) h)
+
+-- a code that suits a kind is one of the table's
+pub code-range : (kind code : ℕ) → suits kind code ≡ true → In (1 ‥ LAST-CODE) code
 unfolding suits
-one-of-four kind code h = go (bending kind) (eqb kind 3) (eqb kind 4) h
+code-range kind code h = go (bending kind) (eqb kind 3) (eqb kind 4) h
   where
-    go : (t u v : Bool) → choose t (eqb code 1 || eqb code 2) (choose u (eqb code 2) (choose v (eqb code 3) (eqb code 4))) ≡ true →
-        ((code ≡ 1) ⊎ (code ≡ 2)) ⊎ ((code ≡ 3) ⊎ (code ≡ 4))
-    go true u v h = ⊎-elim (λ e. inl (inl (eqb-true _ _ e))) (λ e. inl (inr (eqb-true _ _ e))) (either (eqb code 1) (eqb code 2) h)
-    go false true v h = inl (inr (eqb-true _ _ h))
-    go false false true h = inr (inl (eqb-true _ _ h))
-    go false false false h = inr (inr (eqb-true _ _ h))
+    is : (c : ℕ) → In (1 ‥ LAST-CODE) c → code ≡ c → In (1 ‥ LAST-CODE) code
+    is c r e = rw e r
+
+    go : (t u v : Bool) → choose t (eqb code 1 || eqb code 2 || eqb code 5) (choose u (eqb code 2) (choose v (eqb code 3) (eqb code 4))) ≡ true →
+        In (1 ‥ LAST-CODE) code
+    go true u v h = in-bending-is code h (is 1 (omega arith)) (is 2 (omega arith)) (is 5 (omega arith))
+    go false true v h = is 2 (omega arith) (eqb-true _ _ h)
+    go false false true h = is 3 (omega arith) (eqb-true _ _ h)
+    go false false false h = is 4 (omega arith) (eqb-true _ _ h)
+
+-- what holds of every code of the table holds of one that suits a kind
+pub of-code : (P : ℕ → Bool) → all (λ c. P (suc c)) LAST-CODE ≡ true → (kind code : ℕ) → suits kind code ≡ true → P code ≡ true
+of-code P t kind code s =
+    let r = code-range kind code s in
+    let there : suc (code - 1) ≡ code = omega (arith, r) in
+    rw there at (all-at (λ c. P (suc c)) LAST-CODE t (code - 1) (omega (arith, r)))
 
 pub every-code : (kind : ℕ) (P : ℕ → Bool) → everyCode kind P ≡ true → (code : ℕ) → suits kind code ≡ true → P code ≡ true
-every-code kind P t code s =
-    let a = and-eq-true-iff (implies (suits kind 1) (P 1)) _ .0 t in
-    let b = and-eq-true-iff (implies (suits kind 2) (P 2)) _ .0 (a .1) in
-    let d = and-eq-true-iff (implies (suits kind 3) (P 3)) _ .0 (b .1) in
-    ⊎-elim
-    (⊎-elim (λ e. at 1 (a .0) e) (λ e. at 2 (b .0) e))
-    (⊎-elim (λ e. at 3 (d .0) e) (λ e. at 4 (d .1) e))
-    (one-of-four kind code s)
-  where
-    at : (c : ℕ) → implies (suits kind c) (P c) ≡ true → code ≡ c → P code ≡ true
-    at c h e = rw e (met (suits kind c) (P c) h (rw e at s))
+every-code kind P t code s = met (suits kind code) (P code) (of-code (λ c. implies (suits kind c) (P c)) t kind code s) s
 
 module _ {m : Member} (a : AllowedMember m) where
   -- the range of a field that a kind uses whatever its code
@@ -70,9 +76,10 @@ module _ {m : Member} (a : AllowedMember m) where
   in-range-of kind code f e c h t =
       subst₂ (λ (k d : ℕ). used k d f ≡ true → In (rangeOf k d (field m SPAN) f) (field m f)) e c (a .range f h) t
 
--- the sizes of the sections, by code
-pub record LogSizes (m : Member) : Type 0 where
-  pub diameter : field m S1 ≤ 39
+-- the sizes of the sections, by code; those of codes 1 and 5 from their least diameter to their greatest
+pub record LogSizes (m : Member) (least greatest : ℕ) : Type 0 where
+  pub diameter-low : least ≤ field m S1
+  pub diameter-high : field m S1 ≤ greatest
   pub rot : field m S2 ≤ 60
   pub tiers-low : 1 ≤ field m S3
   pub tiers-high : field m S3 ≤ 3
@@ -90,22 +97,36 @@ pub record DowelSizes (m : Member) : Type 0 where
 
 module _ {m : Member} (a : AllowedMember m) where
   -- a member in bending is of kind 1 or 2, and its section is a log or sawn
-  pub one-or-two : field m KIND ≤ 2 → (field m KIND ≡ 1) ⊎ (field m KIND ≡ 2)
+  one-or-two : field m KIND ≤ 2 → (field m KIND ≡ 1) ⊎ (field m KIND ≡ 2)
   one-or-two h = go (field m KIND) (a .kind .0) h
     where
       go : (k : ℕ) → 1 ≤ k → k ≤ 2 → (k ≡ 1) ⊎ (k ≡ 2)
       go k p q = elim (decLe k 1) [ yes l ↦ inl (omega arith) | no n ↦ inr (omega arith) ]
 
-  pub log-sizes : field m KIND ≤ 2 → field m CODE ≡ 1 → LogSizes m
+  -- the range of a section field in bending
+  in-bending : field m KIND ≤ 2 → (code f : ℕ) → field m CODE ≡ code → f < FIELDS → used 1 code f ≡ true → used 2 code f ≡ true →
+      rangeOf 2 code (field m SPAN) f ≡ rangeOf 1 code (field m SPAN) f →
+      In (rangeOf 1 code (field m SPAN) f) (field m f)
+  in-bending h code f c below u1 u2 same =
+      ⊎-elim (λ e. in-range-of a 1 code f e c below u1)
+      (λ e. subst (λ (r : Range). In r (field m f)) same (in-range-of a 2 code f e c below u2))
+      (one-or-two h)
+
+  pub log-sizes : field m KIND ≤ 2 → field m CODE ≡ 1 → LogSizes m 13 39
   unfolding used unusedByKind unusedByCode bending rangeOf ranges sectionRange sectionRanges
-  log-sizes h c = ⊎-elim (λ e. of 1 e refl refl refl) (λ e. of 2 e refl refl refl) (one-or-two h)
-    where
-      of : (k : ℕ) → field m KIND ≡ k → used k 1 S1 ≡ true → used k 1 S2 ≡ true → used k 1 S3 ≡ true → LogSizes m
-      of k e u1 u2 u3 =
-          let s1 = in-range-of a k 1 S1 e c (omega arith) u1 in
-          let s2 = in-range-of a k 1 S2 e c (omega arith) u2 in
-          let s3 = in-range-of a k 1 S3 e c (omega arith) u3 in
-          record { diameter = s1 .1; rot = s2 .1; tiers-low = s3 .0; tiers-high = s3 .1 }
+  log-sizes h c =
+      let s1 = in-bending h 1 S1 c (omega arith) refl refl refl in
+      let s2 = in-bending h 1 S2 c (omega arith) refl refl refl in
+      let s3 = in-bending h 1 S3 c (omega arith) refl refl refl in
+      record { diameter-low = s1 .0; diameter-high = s1 .1; rot = s2 .1; tiers-low = s3 .0; tiers-high = s3 .1 }
+
+  pub crescent-sizes : field m KIND ≤ 2 → field m CODE ≡ 5 → LogSizes m 14 36
+  unfolding used unusedByKind unusedByCode bending rangeOf ranges sectionRange sectionRanges
+  crescent-sizes h c =
+      let s1 = in-bending h 5 S1 c (omega arith) refl refl refl in
+      let s2 = in-bending h 5 S2 c (omega arith) refl refl refl in
+      let s3 = in-bending h 5 S3 c (omega arith) refl refl refl in
+      record { diameter-low = s1 .0; diameter-high = s1 .1; rot = s2 .1; tiers-low = s3 .0; tiers-high = s3 .1 }
 
   sawn-of : (k : ℕ) → field m KIND ≡ k → field m CODE ≡ 2 → used k 2 S1 ≡ true → used k 2 S2 ≡ true → used k 2 S5 ≡ true → SawnSizes m
   unfolding rangeOf ranges sectionRange sectionRanges
@@ -116,11 +137,9 @@ module _ {m : Member} (a : AllowedMember m) where
         pieces = in-range-of a k 2 S5 e c (omega arith) u5 .1;
       }
 
-  pub code-in-bending : field m KIND ≤ 2 → (field m CODE ≡ 1) ⊎ (field m CODE ≡ 2)
+  pub code-in-bending : {P : Type 0} → field m KIND ≤ 2 → (field m CODE ≡ 1 → P) → (field m CODE ≡ 2 → P) → (field m CODE ≡ 5 → P) → P
   unfolding bending suits
-  code-in-bending h =
-      ⊎-elim (λ e. inl (eqb-true _ _ e)) (λ e. inr (eqb-true _ _ e))
-      (either (eqb (field m CODE) 1) (eqb (field m CODE) 2) (rw (le-leb (field m KIND) 2 h) at (a .section)))
+  code-in-bending h = in-bending-is (field m CODE) (rw (le-leb (field m KIND) 2 h) at (a .section))
 
   pub sawn-in-bending : field m KIND ≤ 2 → field m CODE ≡ 2 → SawnSizes m
   unfolding used unusedByKind unusedByCode bending

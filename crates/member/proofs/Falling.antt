@@ -1,27 +1,27 @@
 -- The permitted load of a member never rises with rot, lost area or dead load, whatever its kind; and it is its formula's
 -- exact value rounded down.
 -- Assumes nothing.
-use Prim.Native.Nat.{ℕ, _≤_, _<_}
+use Prim.Native.Nat.{ℕ, suc, _≤_, _<_}
 use mathlib.Core.Path.{_≡_, refl, sym, subst, _∙_}
-use mathlib.Core.Bool.{Bool, true, false, not, _&&_, and-eq-true-iff}
-use mathlib.Core.Logic.{⊎-elim, _⊎_, inl, inr}
+use mathlib.Core.Bool.{Bool, true, false, not}
 use native.Mathlib.Omega.{arith}
 use lib.Dec.{eqb}
 use borrow.Author.Tests.{eq-eqb, ne-eqb}
-use Rattle.section.specs.Choose.{choose}
+use Rattle.section.specs.Choose.{choose, all}
 use Rattle.section.specs.Fraction.{Fraction, Sound, over, whole, hundredths, _⊑_, _≐_}
 use Rattle.section.specs.Species.{bendingFactor, shearFactor}
-use Rattle.section.proofs.Order.{⊑-refl, ⊑-antisymm, ≐-⊑, ≐-⊒, ≐-trans, ·-mono, ·-sound, whole-sound, whole-mono}
+use Rattle.section.proofs.Order.{⊑-refl, ⊑-antisymm, ≐-⊑, ≐-⊒, ≐-trans, ·-mono, ·-sound, whole-sound, whole-mono, tenths-mono}
+use Rattle.section.proofs.Crescents.{tiered-crescent-falls}
 use Rattle.section.proofs.Sections.{tiered-modulus-falls, sawn-modulus-falls, sawn-area-falls, area-left-falls}
 use Rattle.section.proofs.Terms.{dowel-capacity-falls}
-use Rattle.member.specs.Fields.{KIND, SPECIES, SPAN, SPACING, DISTANCE, HEIGHT, DEAD-LOAD, CODE, S1, S2, S3, S4, S5, S6, MU-A, MU-B, FIELDS, field}
+use Rattle.member.specs.Fields.{KIND, SPECIES, SPAN, SPACING, DISTANCE, HEIGHT, DEAD-LOAD, CODE, S1, S2, S3, S4, S5, S6, MU-A, MU-B, FIELDS, LAST-CODE, field}
 use Rattle.member.specs.Format.{AllowedMember, used, unusedByKind, unusedByCode, suits, bending}
 use Rattle.member.specs.Formula.{Formula, Valid, permitted, Permitted, dowelled, keyed, plates}
 use Rattle.member.specs.Wear.{rotFields, lostFields, wears, Worn}
 use Rattle.member.specs.PermittedLoad.{distribution, loadFactor, sectionModulus, netArea, capacity, jointFront, stringerOf, crossBeamOf, chordOf, jointOf, formulaOf, permittedLoad}
 use Rattle.member.specs.Sizes.{Spaced, Inside, Ratio}
 use Rattle.member.specs.declared.record.Member.{Member}
-use Rattle.member.proofs.Allowed.{one-of-four, log-sizes, chord-code, dowel-code, area-code, code-in-bending}
+use Rattle.member.proofs.Allowed.{of-code, log-sizes, chord-code, dowel-code, area-code, code-in-bending}
 use Rattle.member.proofs.Exact.{permitted-exact}
 use Rattle.member.proofs.EachKind.{stringer-mono, cross-beam-mono, chord-mono, joint-mono}
 use Rattle.section.proofs.Order.{over-sound}
@@ -109,26 +109,23 @@ module _ {m : Member} (a : AllowedMember m) where
 module _ {m m' : Member} (a : AllowedMember m) (a' : AllowedMember m') (w : Worn m m') where
   -- a field that never wears, whatever the code
   abbrev neverWears : ℕ → Bool
-  neverWears f = not (wears 1 f) && (not (wears 2 f) && (not (wears 3 f) && not (wears 4 f)))
+  neverWears f = all (λ c. not (wears (suc c) f)) LAST-CODE
 
-  fixed : (c f : ℕ) → not (wears c f) ≡ true → field m CODE ≡ c → f < FIELDS → field m f ≡ field m' f
-  fixed c f t e h = w .alike f h (rw e (go (wears c f) t))
+  unworn : (f : ℕ) → not (wears (field m CODE) f) ≡ true → f < FIELDS → field m f ≡ field m' f
+  unworn f t h = w .alike f h (go (wears (field m CODE) f) t)
     where
       go : (b : Bool) → not b ≡ true → b ≡ false
       go true t = absurd (mathlib.Core.Bool.false≢true t)
       go false t = refl
 
+  fixed : (c f : ℕ) → not (wears c f) ≡ true → field m CODE ≡ c → f < FIELDS → field m f ≡ field m' f
+  fixed c f t e h = unworn f (rw e t) h
+
   worse : (c f : ℕ) → wears c f ≡ true → field m CODE ≡ c → f < FIELDS → field m f ≤ field m' f
   worse c f t e h = w .greater f h (rw e t)
 
   pub same : (f : ℕ) → neverWears f ≡ true → f < FIELDS → field m f ≡ field m' f
-  same f t h =
-      let p = and-eq-true-iff (not (wears 1 f)) _ .0 t in
-      let q = and-eq-true-iff (not (wears 2 f)) _ .0 (p .1) in
-      let r = and-eq-true-iff (not (wears 3 f)) _ .0 (q .1) in
-      ⊎-elim (⊎-elim (λ e. fixed 1 f (p .0) e h) (λ e. fixed 2 f (q .0) e h))
-      (⊎-elim (λ e. fixed 3 f (r .0) e h) (λ e. fixed 4 f (r .1) e h))
-      (one-of-four (field m KIND) (field m CODE) (a .section))
+  same f t h = unworn f (of-code (λ c. not (wears c f)) t (field m KIND) (field m CODE) (a .section)) h
 
   pub same-kind : field m KIND ≡ field m' KIND
   unfolding wears rotFields lostFields
@@ -140,25 +137,27 @@ module _ {m m' : Member} (a : AllowedMember m) (a' : AllowedMember m') (w : Worn
 
   dead-rises : field m DEAD-LOAD ≤ field m' DEAD-LOAD
   unfolding wears rotFields lostFields
-  dead-rises =
-      ⊎-elim (⊎-elim (λ e. worse 1 DEAD-LOAD refl e (omega arith)) (λ e. worse 2 DEAD-LOAD refl e (omega arith)))
-      (⊎-elim (λ e. worse 3 DEAD-LOAD refl e (omega arith)) (λ e. worse 4 DEAD-LOAD refl e (omega arith)))
-      (one-of-four (field m KIND) (field m CODE) (a .section))
+  dead-rises = w .greater DEAD-LOAD (omega arith) (of-code (λ c. wears c DEAD-LOAD) refl (field m KIND) (field m CODE) (a .section))
 
   -- the net sections never rise
   modulus-falls : field m KIND ≤ 2 → sectionModulus m' ⊑ sectionModulus m
   unfolding sectionModulus wears rotFields lostFields
-  modulus-falls h = ⊎-elim log sawn (code-in-bending a h)
+  modulus-falls h = code-in-bending a h log sawn crescent
     where
       log : field m CODE ≡ 1 → sectionModulus m' ⊑ sectionModulus m
       log e =
           rw (eq-eqb (field m CODE) 1 e, eq-eqb (field m' CODE) 1 (sym same-code ∙ e), ← (fixed 1 S1 refl e (omega arith)), ← (fixed 1 S3 refl e (omega arith)))
-          (whole-mono (tiered-modulus-falls (field m S1) (field m S2) (field m' S2) (field m S3) (worse 1 S2 refl e (omega arith)) (log-sizes a h e .diameter)))
+          (whole-mono (tiered-modulus-falls (field m S1) (field m S2) (field m' S2) (field m S3) (worse 1 S2 refl e (omega arith)) (log-sizes a h e .diameter-high)))
 
       sawn : field m CODE ≡ 2 → sectionModulus m' ⊑ sectionModulus m
       sawn e =
-          rw (ne-eqb (field m CODE) 1 (omega arith), ne-eqb (field m' CODE) 1 (omega (arith, same-code)), ← (fixed 2 S1 refl e (omega arith)), ← (fixed 2 S2 refl e (omega arith)), ← (fixed 2 S5 refl e (omega arith)))
+          rw (ne-eqb (field m CODE) 1 (omega arith), ne-eqb (field m' CODE) 1 (omega (arith, same-code)), ne-eqb (field m CODE) 5 (omega arith), ne-eqb (field m' CODE) 5 (omega (arith, same-code)), ← (fixed 2 S1 refl e (omega arith)), ← (fixed 2 S2 refl e (omega arith)), ← (fixed 2 S5 refl e (omega arith)))
           (sawn-modulus-falls (field m S1) (field m S2) (field m S3) (field m' S3) (field m S4) (field m' S4) (field m S5) (worse 2 S3 refl e (omega arith)) (worse 2 S4 refl e (omega arith)))
+
+      crescent : field m CODE ≡ 5 → sectionModulus m' ⊑ sectionModulus m
+      crescent e =
+          rw (ne-eqb (field m CODE) 1 (omega arith), ne-eqb (field m' CODE) 1 (omega (arith, same-code)), eq-eqb (field m CODE) 5 e, eq-eqb (field m' CODE) 5 (sym same-code ∙ e), ← (fixed 5 S1 refl e (omega arith)), ← (fixed 5 S3 refl e (omega arith)))
+          (tenths-mono (tiered-crescent-falls (field m S1) (field m S2) (field m' S2) (field m S3) (worse 5 S2 refl e (omega arith))))
 
   chord-area-falls : field m KIND ≡ 3 → netArea m' ≤ netArea m
   unfolding netArea wears rotFields lostFields

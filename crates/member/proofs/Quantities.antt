@@ -109,7 +109,9 @@ distribution-positive d E h = over-positive _ _ (omega arith) (omega arith)
 
 pub modulus-sound : (m : Member) → Sound (sectionModulus m)
 unfolding sectionModulus
-modulus-sound m = of-choose Sound (eqb (field m CODE) 1) (whole-sound _) (sawn-modulus-sound _ _ _ _ _)
+modulus-sound m =
+    of-choose Sound (eqb (field m CODE) 1) (whole-sound _)
+    (of-choose Sound (eqb (field m CODE) 5) (tenths-sound _) (sawn-modulus-sound _ _ _ _ _))
 
 pub front-sound : (m : Member) → Sound (jointFront m)
 unfolding jointFront dowelled keyed plates capacity

@@ -14,32 +14,32 @@ use Rattle.section.proofs.Order.{over-sound}
 
 -- t for the truncated difference 2d − e, y for l − x
 pub stringer-whole : (w k n q l d t : ℕ) → 0 < n → 0 < l → 0 < d → 0 < t →
-    permitted (stringer (over w 6) (tenths k) (tenths n) (hundredths q) (whole l) (over t (2 * d))) ≡
-    (25600 * w * k - 12 * q * (l * l)) * (2 * d) / (n * t * (l * l))
+    permitted (stringer (over w 30) (tenths k) (tenths n) (hundredths q) (whole l) (over t (2 * d))) ≡
+    (5120 * w * k - 12 * q * (l * l)) * (2 * d) / (n * t * (l * l))
 unfolding stringer over whole tenths hundredths square _·_ _÷_
 stringer-whole w k n q l d t pn pl pd pt =
-    permitted-whole (stringer (over w 6) (tenths k) (tenths n) (hundredths q) (whole l) (over t (2 * d)))
-    (25600 * w * k)
+    permitted-whole (stringer (over w 30) (tenths k) (tenths n) (hundredths q) (whole l) (over t (2 * d)))
+    (5120 * w * k)
     (12 * q * (l * l))
     (2 * d)
     (n * t * (l * l))
-    (stringer-valid (over-sound w 6 (omega arith)) (tenths-sound k) (tenths-positive n pn) (hundredths-sound q) (whole-positive l pl)
+    (stringer-valid (over-sound w 30 (omega arith)) (tenths-sound k) (tenths-positive n pn) (hundredths-sound q) (whole-positive l pl)
     (over-positive t (2 * d) pt (omega arith)))
     (mul-pos (mul-pos pn pt) (mul-pos pl pl))
     (omega arith)
     (omega arith)
 
 pub cross-beam-whole : (w k n q l x : ℕ) → 0 < n → 0 < l → 0 < x →
-    permitted (crossBeam (over w 6) (tenths k) (tenths n) (hundredths q) (whole l) (whole x)) ≡
-    (64000 * w * k - 36 * q * (l * l)) / (3 * n * (x * l))
+    permitted (crossBeam (over w 30) (tenths k) (tenths n) (hundredths q) (whole l) (whole x)) ≡
+    (12800 * w * k - 36 * q * (l * l)) / (3 * n * (x * l))
 unfolding crossBeam over whole tenths hundredths square _·_ _÷_
 cross-beam-whole w k n q l x pn pl px =
-    permitted-whole (crossBeam (over w 6) (tenths k) (tenths n) (hundredths q) (whole l) (whole x))
-    (64000 * w * k)
+    permitted-whole (crossBeam (over w 30) (tenths k) (tenths n) (hundredths q) (whole l) (whole x))
+    (12800 * w * k)
     (36 * q * (l * l))
     1
     (3 * n * (x * l))
-    (cross-beam-valid (over-sound w 6 (omega arith)) (tenths-sound k) (tenths-positive n pn) (hundredths-sound q) (whole-positive l pl)
+    (cross-beam-valid (over-sound w 30 (omega arith)) (tenths-sound k) (tenths-positive n pn) (hundredths-sound q) (whole-positive l pl)
     (whole-positive x px))
     (mul-pos (omega arith) (mul-pos px pl))
     (omega arith)

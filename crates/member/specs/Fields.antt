@@ -62,6 +62,10 @@ MU-B = 15
 abbrev pub FIELDS : ℕ
 FIELDS = 16
 
+-- section codes go from 1 to this
+abbrev pub LAST-CODE : ℕ
+LAST-CODE = 5
+
 -- the most members of a survey, and the most axles of a vehicle
 abbrev pub MOST-MEMBERS : ℕ
 MOST-MEMBERS = 64

@@ -1,5 +1,5 @@
 -- What the files may hold: the ranges, the fields that are used, the sections that suit a kind. Document 01, 'Net
--- section' (the table of codes) and 'Files'.
+-- section' (the table of codes) and 'Files'; code 5 from document 02, request 1/13.
 use Prim.Native.Nat.{ℕ, _-_, _≤_, _<_}
 use mathlib.Core.Path.{_≡_}
 use mathlib.Core.Bool.{Bool, true, false, not, _&&_, _||_}
@@ -8,7 +8,7 @@ use lib.ListN.{getD}
 use lib.Dec.{eqb, leb}
 use Rattle.section.specs.Choose.{choose}
 use Rattle.section.specs.Units.{weight, distance}
-use Rattle.member.specs.Fields.{KIND, SPECIES, SPAN, SPACING, DISTANCE, HEIGHT, CODE, S3, S4, S5, S6, MU-A, MU-B, FIELDS, MOST-AXLES, field}
+use Rattle.member.specs.Fields.{KIND, SPECIES, SPAN, SPACING, DISTANCE, HEIGHT, CODE, S3, S4, S5, S6, MU-A, MU-B, FIELDS, LAST-CODE, MOST-AXLES, field}
 use Rattle.member.specs.declared.record.Member.{Member}
 use Rattle.member.specs.declared.record.Vehicle.{Vehicle}
 
@@ -24,13 +24,15 @@ a ‥ b = record { low = a; high = b }
 abbrev pub In : Range → ℕ → Type 0
 In r n = (r .low ≤ n) × (n ≤ r .high)
 
--- "Section code and its fields s1 to s6", each with its range
+-- "Section code and its fields s1 to s6", each with its range. Code 5: "s1 diameter, s2 depth 0..60, s3 tiers 1..3"; "A diameter without
+-- a row, or above 39, is out of range", and the rows are 14 to 36
 unfoldable pub sectionRanges : ℕ → List Range
 sectionRanges code =
     choose (eqb code 1) (13 ‥ 39 ∷ 0 ‥ 60 ∷ 1 ‥ 3 ∷ [])
     (choose (eqb code 2) (1 ‥ 60 ∷ 1 ‥ 60 ∷ 0 ‥ 60 ∷ 0 ‥ 60 ∷ 1 ‥ 40 ∷ 0 ‥ 10000 ∷ [])
     (choose (eqb code 3) (1 ‥ 3 ∷ 1 ‥ 60 ∷ 1 ‥ 60 ∷ 1 ‥ 60 ∷ 0 ‥ 60 ∷ 1 ‥ 200 ∷ [])
-    (choose (eqb code 4) (1 ‥ 10000 ∷ 0 ‥ 10000 ∷ []) [])))
+    (choose (eqb code 4) (1 ‥ 10000 ∷ 0 ‥ 10000 ∷ [])
+    (choose (eqb code 5) (14 ‥ 36 ∷ 0 ‥ 60 ∷ 1 ‥ 3 ∷ []) []))))
 
 unfoldable pub sectionRange : (code s : ℕ) → Range
 sectionRange code s = getD (sectionRanges code) s (0 ‥ 0)
@@ -39,10 +41,10 @@ sectionRange code s = getD (sectionRanges code) s (0 ‥ 0)
 unfoldable pub bending : ℕ → Bool
 bending kind = leb kind 2
 
--- which section codes suit a kind: the column 'section' of the table of permitted loads
+-- which section codes suit a kind: the column 'section' of the table of permitted loads, and code 5 "for kinds 1 and 2"
 unfoldable pub suits : ℕ → ℕ → Bool
 suits kind code =
-    choose (bending kind) (eqb code 1 || eqb code 2)
+    choose (bending kind) (eqb code 1 || eqb code 2 || eqb code 5)
     (choose (eqb kind 3) (eqb code 2)
     (choose (eqb kind 4) (eqb code 3) (eqb code 4)))
 
@@ -59,7 +61,8 @@ unfoldable pub unusedByCode : ℕ → ℕ → List ℕ
 unusedByCode kind code =
     choose (eqb code 1) (S4 ∷ S5 ∷ S6 ∷ [])
     (choose (eqb code 2) (choose (bending kind) (S6 ∷ []) [])
-    (choose (eqb code 4) (S3 ∷ S4 ∷ S5 ∷ S6 ∷ []) []))
+    (choose (eqb code 4) (S3 ∷ S4 ∷ S5 ∷ S6 ∷ [])
+    (choose (eqb code 5) (S4 ∷ S5 ∷ S6 ∷ []) [])))
 
 abbrev pub holds : ℕ → List ℕ → Bool
 holds n [] = false
@@ -77,7 +80,7 @@ distanceRange kind l = choose (eqb kind 2) (10 ‥ 1000) (1 ‥ (l - 1))
 -- the species and the codes, in the order of the record
 unfoldable pub ranges : (kind code l : ℕ) → List Range
 ranges kind code l =
-    1 ‥ 6 ∷ 1 ‥ 8 ∷ 100 ‥ 5000 ∷ 10 ‥ 1000 ∷ distanceRange kind l ∷ 10 ‥ 500 ∷ 0 ‥ 10000 ∷ 1 ‥ 4 ∷
+    1 ‥ 6 ∷ 1 ‥ 8 ∷ 100 ‥ 5000 ∷ 10 ‥ 1000 ∷ distanceRange kind l ∷ 10 ‥ 500 ∷ 0 ‥ 10000 ∷ 1 ‥ LAST-CODE ∷
     sectionRange code 0 ∷ sectionRange code 1 ∷ sectionRange code 2 ∷ sectionRange code 3 ∷ sectionRange code 4 ∷
     sectionRange code 5 ∷ 1 ‥ 1000 ∷ 1 ‥ 1000 ∷ []
 

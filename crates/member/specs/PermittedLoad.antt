@@ -2,6 +2,7 @@
 use Prim.Native.Nat.{ℕ, _-_, _*_, min}
 use lib.Dec.{eqb}
 use Rattle.section.specs.Choose.{choose}
+use Rattle.section.specs.Crescent.{tieredCrescent}
 use Rattle.section.specs.Dowel.{dowelCapacity}
 use Rattle.section.specs.Fraction.{Fraction, over, whole, tenths, hundredths}
 use Rattle.section.specs.Log.{tieredModulus}
@@ -22,11 +23,12 @@ loadFactor class = tenths (loadFactorTenths class)
 unfoldable pub distribution : (d E : ℕ) → Fraction
 distribution d E = over (2 * d - min E d) (2 * d)
 
--- W of section codes 1 and 2
+-- W of section codes 1, 2 and 5, that of code 5 in tenths
 unfoldable pub sectionModulus : Member → Fraction
 sectionModulus m =
     choose (eqb (field m CODE) 1) (whole (tieredModulus (field m S1) (field m S2) (field m S3)))
-    (sawnModulus (field m S1) (field m S2) (field m S3) (field m S4) (field m S5))
+    (choose (eqb (field m CODE) 5) (tenths (tieredCrescent (field m S1) (field m S2) (field m S3)))
+    (sawnModulus (field m S1) (field m S2) (field m S3) (field m S4) (field m S5)))
 
 -- F of section codes 2 and 4
 unfoldable pub netArea : Member → ℕ

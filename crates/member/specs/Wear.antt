@@ -1,6 +1,7 @@
 -- Two records of one member, the second with as great or greater rot, lost area and dead load. Document 01, 'Judgement': "Rot is s2
 -- of code 1, s3 and s4 of code 2, s5 of code 3; lost area is s6 of code 2, s2 of code 4; dead load is q. These are compared field by
--- field in each shared member". "All else is every other number in a shared member's record".
+-- field in each shared member". "All else is every other number in a shared member's record". Document 02, request 1/13: "Depth is rot
+-- wherever rot is spoken of", s2 of code 5.
 use Prim.Native.Nat.{ℕ, _≤_, _<_}
 use mathlib.Core.Path.{_≡_}
 use mathlib.Core.Bool.{Bool, true, false, _||_}
@@ -13,7 +14,8 @@ use Rattle.member.specs.declared.record.Member.{Member}
 
 unfoldable pub rotFields : (code : ℕ) → List ℕ
 rotFields code =
-    choose (eqb code 1) (S2 ∷ []) (choose (eqb code 2) (S3 ∷ S4 ∷ []) (choose (eqb code 3) (S5 ∷ []) []))
+    choose (eqb code 1) (S2 ∷ []) (choose (eqb code 2) (S3 ∷ S4 ∷ []) (choose (eqb code 3) (S5 ∷ [])
+    (choose (eqb code 5) (S2 ∷ []) [])))
 
 unfoldable pub lostFields : (code : ℕ) → List ℕ
 lostFields code = choose (eqb code 2) (S6 ∷ []) (choose (eqb code 4) (S2 ∷ []) [])

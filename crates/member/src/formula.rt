@@ -1,5 +1,5 @@
 // The permitted load by each formula, on whole numbers with the constants multiplied out and one rounding at the end. Factors
-// are in tenths, section moduli in sixths of a cm³, a dowel's capacity in hundredths of a kgf.
+// are in tenths, section moduli in thirtieths of a cm³, a dowel's capacity in hundredths of a kgf.
 ghost use mathlib.Core.Path.{_≡_};
 ghost use Prim.Native.Nat.{_+_, _-_, _*_, _/_, _≤_, _<_, min};
 ghost use Rattle.section.specs.Fraction.{over, whole, tenths, hundredths, _≐_};
@@ -27,20 +27,20 @@ fn distributed(x: u64, n: u64, d: Cm, track: Cm, m: u64) -> KgfPerM
 
 // (13)
 pub fn stringer(w: u64, k: u64, n: u64, q: KgfPerM, l: Cm, d: Cm, track: Cm) -> KgfPerM
-    requires { ⌜ (w ≤ 8640000) × Sizes k n (q .0) (l .0) × Spaced (d .0) ⌝ }
-    ensures { λ r. ⌜ r .0 ≡ permitted (stringer (over w 6) (tenths k) (tenths n) (hundredths (q .0)) (whole (l .0)) (distribution (d .0) (track .0))) ⌝ }
+    requires { ⌜ (w ≤ 43200000) × Sizes k n (q .0) (l .0) × Spaced (d .0) ⌝ }
+    ensures { λ r. ⌜ r .0 ≡ permitted (stringer (over w 30) (tenths k) (tenths n) (hundredths (q .0)) (whole (l .0)) (distribution (d .0) (track .0))) ⌝ }
 {
     let m = l.0 * l.0;
-    distributed(less(25600 * w * k, 12 * q.0 * m), n, d, track, m)
+    distributed(less(5120 * w * k, 12 * q.0 * m), n, d, track, m)
 }
 
 // (30)
 pub fn cross_beam(w: u64, k: u64, n: u64, q: KgfPerM, l: Cm, x: Cm) -> KgfPerM
-    requires { ⌜ (w ≤ 8640000) × Sizes k n (q .0) (l .0) × Spaced (x .0) ⌝ }
-    ensures { λ r. ⌜ r .0 ≡ permitted (crossBeam (over w 6) (tenths k) (tenths n) (hundredths (q .0)) (whole (l .0)) (whole (x .0))) ⌝ }
+    requires { ⌜ (w ≤ 43200000) × Sizes k n (q .0) (l .0) × Spaced (x .0) ⌝ }
+    ensures { λ r. ⌜ r .0 ≡ permitted (crossBeam (over w 30) (tenths k) (tenths n) (hundredths (q .0)) (whole (l .0)) (whole (x .0))) ⌝ }
 {
     let m = l.0 * l.0;
-    let front = less(64000 * w * k, 36 * q.0 * m);
+    let front = less(12800 * w * k, 36 * q.0 * m);
     KgfPerM(round_down(front, 3 * n * (x.0 * l.0)))
 }
 

@@ -17,6 +17,7 @@ use crate::record::*;
 use section::CentiKgf;
 use section::Cm;
 use section::KgfPerM;
+use section::crescent::tiered_crescent;
 use section::dowel::dowel_capacity;
 use section::log::tiered_modulus;
 use section::sawn::area_left;
@@ -33,16 +34,21 @@ fn load_factor(class: u8) -> u64
     if class == 0 { 14 } else { 11 }
 }
 
-// The section modulus of a log or a sawn beam in bending, in sixths of a cm³.
-fn modulus_sixths(m: Member) -> u64
+// The section modulus of a log or a sawn beam in bending, in thirtieths of a cm³: whole cm³, sixths and tenths are whole numbers of
+// these.
+fn modulus_thirtieths(m: Member) -> u64
     requires { ⌜ AllowedMember m × (field m KIND ≤ 2) ⌝ }
-    ensures is { λ r. ⌜ over r 6 ≐ sectionModulus m ⌝ }
-    ensures cap { λ r. ⌜ r ≤ 8640000 ⌝ }
+    ensures is { λ r. ⌜ over r 30 ≐ sectionModulus m ⌝ }
+    ensures cap { λ r. ⌜ r ≤ 43200000 ⌝ }
 {
-    if m.number(CODE) == 1 {
-        return 6 * tiered_modulus(m.log());
+    let code = m.number(CODE);
+    if code == 1 {
+        return 30 * tiered_modulus(m.log());
     }
-    sawn_modulus_sixths(m.sawn())
+    if code == 5 {
+        return 3 * tiered_crescent(m.crescent());
+    }
+    5 * sawn_modulus_sixths(m.sawn())
 }
 
 // The area of a chord, in cm².
@@ -112,7 +118,7 @@ fn stringer_load(m: Member, class: u8, track: Cm) -> KgfPerM
     ensures { λ r. ⌜ r .0 ≡ permittedLoad m class (track .0) ⌝ }
 {
     stringer(
-        modulus_sixths(m),
+        modulus_thirtieths(m),
         bending(m),
         load_factor(class),
         m.dead_load(),
@@ -128,7 +134,7 @@ fn cross_beam_load(m: Member, class: u8) -> KgfPerM
     ensures { λ r. ⌜ ((track : ℕ) → r .0 ≡ permittedLoad m class track) ⌝ }
 {
     cross_beam(
-        modulus_sixths(m),
+        modulus_thirtieths(m),
         bending(m),
         load_factor(class),
         m.dead_load(),

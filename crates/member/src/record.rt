@@ -6,6 +6,7 @@ use section::Cm;
 use section::Kgf;
 use section::KgfPerM;
 use section::Mm;
+use section::crescent::Crescent;
 use section::dowel::Dowels;
 use section::log::Log;
 use section::sawn::Sawn;
@@ -128,6 +129,21 @@ impl Member {
         Log {
             diameter,
             rot,
+            tiers,
+        }
+    }
+
+    // The section of code 5: s1 diameter, s2 depth of the crescent, s3 tiers.
+    pub fn crescent(self) -> Crescent
+        requires { ⌜ field self CODE ≡ 5 ⌝ }
+        ensures { λ r. ⌜ (r .diameter .0 ≡ field self S1) × (r .depth .0 ≡ field self S2) × (r .tiers ≡ field self S3) ⌝ }
+    {
+        let diameter = Cm(self.number(S1));
+        let depth = Cm(self.number(S2));
+        let tiers = self.number(S3);
+        Crescent {
+            diameter,
+            depth,
             tiers,
         }
     }

@@ -1,5 +1,6 @@
 pub mod Terms
 pub mod Choices
+pub mod Crescents
 pub mod Order
 pub mod Products
 pub mod Quotient

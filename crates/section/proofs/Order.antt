@@ -109,6 +109,15 @@ pub whole-mono : {m n : ℕ} → m ≤ n → whole m ⊑ whole n
 unfolding whole
 whole-mono h = omega arith
 
+pub tenths-mono : {m n : ℕ} → m ≤ n → tenths m ⊑ tenths n
+unfolding tenths
+tenths-mono h = omega arith
+
+-- a fraction in a smaller unit
+pub scaled : (k n d : ℕ) {a : Fraction} → over n d ≐ a → over (k * n) (k * d) ≐ a
+unfolding over
+scaled k n d e = record { out = omega (arith, ap (λ (z : ℕ). k * z) (e .out)) }
+
 pub square-mono : {a b : Fraction} → a ⊑ b → square a ⊑ square b
 unfolding square
 square-mono h = ·-mono h h

@@ -3,7 +3,7 @@
 use Rattle.section.specs.Fraction.{Sound, whole, square, _⊑_}
 use Rattle.section.specs.Sawn.{sawnModulus, sawnArea, areaLeft}
 use Rattle.section.proofs.Order.{⊑-refl, ·-mono, ÷-mono, ·-sound, ÷-sound, whole-sound, square-sound, whole-mono, square-mono}
-use Prim.Native.Nat.{ℕ, _+_, _-_, _*_, _≤_, _<_}
+use Prim.Native.Nat.{ℕ, suc, _+_, _-_, _*_, _≤_, _<_}
 use mathlib.Core.Path.{_≡_, refl}
 use mathlib.Core.Bool.{Bool, true, false}
 use native.Mathlib.Nat.{mul-le-mul, mul-le-mul-left, mul-le-mul-right, le-trans}
@@ -23,7 +23,7 @@ log-modulus-mono m n p h = go (leb 13 m) refl
     go : (t : Bool) → leb 13 m ≡ t → choose t (getD logTable (m - 13) 0) 0 ≤ logModulus n
     go true e =
         let low : 13 ≤ m = leb-true 13 m e in
-        rw (le-leb 13 n (omega arith)) (never-falls 0 logTable refl (m - 13) (n - 13) (omega arith) (omega arith))
+        rw (le-leb 13 n (omega arith)) (never-falls 0 logTable refl (suc (m - 13)) (suc (n - 13)) (omega arith) (omega arith))
     go false e = omega arith
 
 pub log-modulus-cap : (n : ℕ) → n ≤ 39 → logModulus n ≤ 5824

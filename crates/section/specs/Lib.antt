@@ -1,4 +1,5 @@
 pub mod Choose
+pub mod Crescent
 pub mod Dowel
 pub mod Fraction
 pub mod Log

@@ -1,4 +1,5 @@
 // Units, fractions, species factors and net sections: what a rating is computed from.
+pub mod crescent;
 pub mod dowel;
 pub mod fraction;
 pub mod log;

@@ -2,6 +2,7 @@
 use mathlib.Core.Path.{refl}
 use native.Mathlib.Omega.{arith}
 use borrow.Author.Needs.{needs}
+use Rattle.member.specs.Fields.{LAST-CODE}
 use Rattle.member.specs.Format.{_‥_, In, sectionRange, sectionRanges}
 use Rattle.files.proofs.Tables.{section-entry, no-section}
 use Rattle.files.proofs.ranges.section_limits.Statement.{statement}
@@ -38,7 +39,7 @@ returns-3 : tie.Need-returns-3
 unfolding sectionRange sectionRanges
 returns-3 c =
     let a = c .before .before in
-    let code : In (1 ‥ 4) (a .args .code) = omega arith in
+    let code : In (1 ‥ LAST-CODE) (a .args .code) = omega arith in
     let below = a .pre in
     (search (section-entry (λ r. r .low)), search (section-entry (λ r. r .high)))
 

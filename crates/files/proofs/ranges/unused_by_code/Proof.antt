@@ -23,7 +23,11 @@ returns-4 c = rw (ne-eqb _ _ (c .before .before .if1 .left), ne-eqb _ _ (c .befo
 
 returns-5 : tie.Need-returns-5
 unfolding unusedByCode bending
-returns-5 c = rw (ne-eqb _ _ (c .before .before .if1 .left), ne-eqb _ _ (c .before .if2 .left), ne-eqb _ _ (c .if4 .left))
+returns-5 c = rw (ne-eqb _ _ (c .before .before .before .if1 .left), ne-eqb _ _ (c .before .before .if2 .left), ne-eqb _ _ (c .before .if4 .left), eq-eqb _ _ (c .if5 .taken)) (simp (or-assoc, or-false))
+
+returns-6 : tie.Need-returns-6
+unfolding unusedByCode bending
+returns-6 c = rw (ne-eqb _ _ (c .before .before .before .if1 .left), ne-eqb _ _ (c .before .before .if2 .left), ne-eqb _ _ (c .before .if4 .left), ne-eqb _ _ (c .if5 .left))
 
 pub unused-by-code-spec : {M : Type 1} → statement M
-unused-by-code-spec = tie.close (tie.spec returns returns-2 returns-3 returns-4 returns-5)
+unused-by-code-spec = tie.close (tie.spec returns returns-2 returns-3 returns-4 returns-5 returns-6)

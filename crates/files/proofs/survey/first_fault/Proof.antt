@@ -8,7 +8,8 @@ use native.Mathlib.Numerals.{add-one}
 use native.Mathlib.Omega.{arith}
 use Rattle.member.specs.Fields.{FIELDS}
 use Rattle.files.specs.Words.{each}
-use Rattle.files.specs.Reading.{firstFault, all}
+use Rattle.section.specs.Choose.{all}
+use Rattle.files.specs.Reading.{firstFault}
 use Rattle.files.specs.SurveyFile.{recordAt, memberFault, zeroed}
 use Rattle.files.specs.declared.Reading.the-variants.{Taken}
 use Rattle.files.proofs.Tests.{fails, holds}

@@ -6,7 +6,8 @@ use mathlib.Core.Bool.{Bool, true}
 use native.Mathlib.Numerals.{add-one}
 use native.Mathlib.Omega.{arith}
 use Rattle.files.specs.Words.{each}
-use Rattle.files.specs.Reading.{firstFault, _unless_, all}
+use Rattle.section.specs.Choose.{all}
+use Rattle.files.specs.Reading.{firstFault, _unless_}
 use Rattle.files.specs.VehicleFile.{AXLE-FIELDS, fieldWithin, axleWithin, axleFault}
 use Rattle.files.specs.declared.Reading.the-variants.{Taken}
 use Rattle.files.proofs.Tests.{fails, holds, all-fails}

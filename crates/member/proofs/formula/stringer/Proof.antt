@@ -18,7 +18,7 @@ mul-less : tie.Need-mul-less
 mul-less c = search needs
 
 mul-less-2 : tie.Need-mul-less-2
-mul-less-2 c = product-fits (25600 * 8640000) 16 tt (omega arith) (omega arith)
+mul-less-2 c = product-fits (5120 * 43200000) 16 tt (omega arith) (omega arith)
 
 mul-less-3 : tie.Need-mul-less-3
 mul-less-3 c = search needs

@@ -1,4 +1,4 @@
--- `member::permitted::stringer_load` meets its contract: formula (13) of the member's quantities, its W in sixths.
+-- `member::permitted::stringer_load` meets its contract: formula (13) of the member's quantities, its W in thirtieths.
 -- Assumes nothing.
 use native.Mathlib.Omega.{arith}
 use mathlib.Core.Path.{refl}
@@ -12,8 +12,8 @@ use borrow.Author.Needs.{needs}
 use Rattle.member.proofs.permitted.stringer_load.Statement.{statement}
 use Rattle.member.proofs.permitted.stringer_load.Tie as tie
 
-modulus-sixths-requires : tie.Need-modulus-sixths-requires
-modulus-sixths-requires c κs = search needs
+modulus-thirtieths-requires : tie.Need-modulus-thirtieths-requires
+modulus-thirtieths-requires c κs = search needs
 
 bending-requires : tie.Need-bending-requires
 unfolding used unusedByKind unusedByCode bending suits
@@ -39,7 +39,7 @@ stringer-requires c κs =
       arith,
       sizes (p .0) 0 11 (omega arith) (omega arith),
       spacing (p .0) 1 (p .1) refl,
-      c .before .before .before .before .before .modulus-sixths .ensures .1,
+      c .before .before .before .before .before .modulus-thirtieths .ensures .1,
       c .before .before .before .before .bending .ensures .1,
       c .before .before .before .load-factor .ensures .1,
     )
@@ -59,16 +59,16 @@ returns c =
       stringer-load (a .m) (a .class) (a .track .0) (p .1),
     )
     (stringer-same _ _ _ _ _
-    (stringer-valid (over-sound _ 6 (omega arith)) (tenths-sound _) (load-factor-positive (a .class)) (hundredths-sound _) (span-positive (p .0))
+    (stringer-valid (over-sound _ 30 (omega arith)) (tenths-sound _) (load-factor-positive (a .class)) (hundredths-sound _) (span-positive (p .0))
     (distribution-positive _ (a .track .0) (spacing (p .0) 1 (p .1) refl .low)))
     (valid-stringer (p .0) (a .class) (a .track .0) (p .1))
-    (c .before .before .before .before .before .before .modulus-sixths .ensures .0))
+    (c .before .before .before .before .before .before .modulus-thirtieths .ensures .0))
 
 pub stringer-load-spec : {M : Type 1} → statement M
 stringer-load-spec =
     tie.close
     (tie.spec
-    modulus-sixths-requires
+    modulus-thirtieths-requires
     bending-requires
     load-factor-requires
     dead-load-requires
