@@ -1,6 +1,8 @@
 //! The survey record: sixteen words, and for each kind and section which of them are used and
 //! within which limits. What is used by neither is 0.
 
+use crate::crescent;
+
 /// Words of a record by place.
 pub const KIND: usize = 0;
 pub const SPECIES: usize = 1;
@@ -57,6 +59,7 @@ pub fn of_section(kind: u16, code: u16) -> &'static [Limit] {
         2 => &SAWN,
         3 => &DOWELS,
         4 => &[(S1, 1, 10000), (S2, 0, 10000)],
+        5 => &[(S1, crescent::LEAST, crescent::GREATEST), (S2, 0, 60), (S3, 1, 3)],
         _ => &[],
     }
 }
@@ -64,7 +67,7 @@ pub fn of_section(kind: u16, code: u16) -> &'static [Limit] {
 /// The section codes that suit a kind.
 pub fn sections(kind: u16) -> &'static [u16] {
     match kind {
-        1 | 2 => &[1, 2],
+        1 | 2 => &[1, 2, 5],
         3 => &[2],
         4 => &[3],
         5 | 6 => &[4],

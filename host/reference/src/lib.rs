@@ -1,9 +1,11 @@
-//! Document 01 in plain Rust, written from the document alone, and a generator of files.
+//! Document 01 and request 1 of document 02 in plain Rust, written from the documents alone, and a
+//! generator of files.
 //!
 //! The proved library is tested against it. It tries every position of the vehicle, counts in
 //! fractions of 128 bits and is in no hurry; [`twin`] is the same judgement made fast, for the
 //! benchmark.
 
+pub mod crescent;
 pub mod fraction;
 pub mod generate;
 pub mod influence;

@@ -1,5 +1,6 @@
 //! Net sections: section modulus W in cm³, area F in cm², dowel capacity T in kgf.
 
+use crate::crescent::crescent_modulus;
 use crate::fraction::{over, whole, Fraction};
 use crate::reader::Member;
 
@@ -11,18 +12,16 @@ const LOG_W: [u32; 27] = [
 const LEAST_LOG: u16 = 13;
 
 /// W of one log; 0 below the table.
-pub(crate) fn log_modulus(net_diameter: u16) -> u32 {
+pub(crate) const fn log_modulus(net_diameter: u16) -> u32 {
     match net_diameter.checked_sub(LEAST_LOG) {
-        Some(row) => LOG_W[usize::from(row)],
+        Some(row) => LOG_W[row as usize],
         None => 0,
     }
 }
 
-/// W of a log: the top tier is decayed, the others sound.
-fn log_tiers(diameter: u16, rot: u16, tiers: u16) -> Fraction {
-    let top = log_modulus(diameter.saturating_sub(2 * rot));
-    let others = u32::from(tiers - 1) * log_modulus(diameter);
-    whole(top + others)
+/// W of so many tiers of logs: the top one is decayed, the others sound.
+fn in_tiers(top: Fraction, diameter: u16, tiers: u16) -> Fraction {
+    top + whole(u32::from(tiers - 1) * log_modulus(diameter))
 }
 
 /// Net width and net height of a sawn piece.
@@ -30,14 +29,17 @@ fn net_piece(s: &[u16; 6]) -> (i128, i128) {
     (s[0].saturating_sub(s[2]).into(), s[1].saturating_sub(s[3]).into())
 }
 
-/// W of a section in bending, code 1 or 2.
+/// W of a section in bending: code 1 rots all round, code 5 from above, and code 2 is sawn.
 pub fn section_modulus(member: &Member) -> Fraction {
     let s = &member.s;
-    if member.code == 1 {
-        return log_tiers(s[0], s[1], s[2]);
+    match member.code {
+        1 => in_tiers(whole(log_modulus(s[0].saturating_sub(2 * s[1]))), s[0], s[2]),
+        5 => in_tiers(over(crescent_modulus(s[0], s[1]).into(), 10), s[0], s[2]),
+        _ => {
+            let (b, h) = net_piece(s);
+            over(i128::from(s[4]) * b * h * h, 6)
+        }
     }
-    let (b, h) = net_piece(s);
-    over(i128::from(s[4]) * b * h * h, 6)
 }
 
 /// F of a section, code 2 or 4.

@@ -2,21 +2,25 @@
 //! Only the positions that put an axle over the apex are tried, a sum ends at the first axle that
 //! is not on the base yet, and a triangle with its apex in the middle is tried once.
 
+use crate::crescent::crescent_modulus;
 use crate::influence::{offsets, triangle};
 use crate::judge::{bridge, Judged, Rated};
 use crate::permitted::SPECIES;
 use crate::reader::{self, Axle, Member, Refused, Vehicle};
 use crate::section::log_modulus;
 
-/// Six times W.
-fn modulus_in_sixths(m: &Member) -> u64 {
+/// Thirty times W, which is a whole number of sixths or tenths of a cm³.
+fn modulus_in_thirtieths(m: &Member) -> u64 {
     let s = m.s.map(u64::from);
-    if m.code == 1 {
-        let net = m.s[0].saturating_sub(2 * m.s[1]);
-        return 6 * (u64::from(log_modulus(net)) + (s[2] - 1) * u64::from(log_modulus(m.s[0])));
+    if m.code == 2 {
+        let (b, h) = (s[0].saturating_sub(s[2]), s[1].saturating_sub(s[3]));
+        return 5 * s[4] * b * h * h;
     }
-    let (b, h) = (s[0].saturating_sub(s[2]), s[1].saturating_sub(s[3]));
-    s[4] * b * h * h
+    let top = match m.code {
+        1 => 30 * log_modulus(m.s[0].saturating_sub(2 * m.s[1])),
+        _ => 3 * crescent_modulus(m.s[0], m.s[1]),
+    };
+    u64::from(top) + 30 * (s[2] - 1) * u64::from(log_modulus(m.s[0]))
 }
 
 /// F in cm².
@@ -58,11 +62,11 @@ fn permitted_load(m: &Member, vehicle: &Vehicle) -> u64 {
     let (k, shear) = (u64::from(k), u64::from(shear));
     let side = 2 * d - u64::from(vehicle.track.min(m.d));
     if m.kind == 1 {
-        let net = (25_600 * modulus_in_sixths(m) * k).saturating_sub(12 * q * l * l);
+        let net = (5_120 * modulus_in_thirtieths(m) * k).saturating_sub(12 * q * l * l);
         return scaled(net, 2 * d, n * side * l * l);
     }
     if m.kind == 2 {
-        let net = (64_000 * modulus_in_sixths(m) * k).saturating_sub(36 * q * l * l);
+        let net = (12_800 * modulus_in_thirtieths(m) * k).saturating_sub(36 * q * l * l);
         return net / (3 * n * x * l);
     }
     let (a, b) = if m.kind == 3 { (1, 1) } else { (m.a.into(), m.b.into()) };

@@ -2,7 +2,7 @@
 
 use reference::fraction::{over, whole};
 use reference::permitted::{exact, permitted_load};
-use reference::section::dowel_capacity;
+use reference::section::{dowel_capacity, section_modulus};
 use reference::{influence::vehicle_load, Axle, Member, Vehicle};
 
 const NOTHING: Member =
@@ -59,6 +59,33 @@ fn three_sound_tiers_count_three_times() {
     let any = vehicle(&[1], 0);
     let tiers = |n| Member { q: 0, s: [28, 0, n, 0, 0, 0], ..stringer(0) };
     assert_eq!(exact(&tiers(3), &any), whole(3) * exact(&tiers(1), &any));
+}
+
+/// A log that rots from above, W by appendix 3.
+fn crescent(diameter: u16, depth: u16, tiers: u16) -> Member {
+    Member { code: 5, s: [diameter, depth, tiers, 0, 0, 0], ..stringer(0) }
+}
+
+#[test]
+fn crescents_in_tiers() {
+    let modulus = |diameter, depth, tiers| section_modulus(&crescent(diameter, depth, tiers));
+    assert_eq!(modulus(14, 2, 1), over(1859, 10));
+    // The top log is decayed, the others have the sound W, 269 at diameter 14.
+    assert_eq!(modulus(14, 2, 2), over(1859 + 2690, 10));
+    assert_eq!(modulus(14, 2, 3), over(1859 + 2 * 2690, 10));
+    assert_eq!(modulus(14, 8, 3), whole(2 * 269));
+    assert_eq!(modulus(36, 17, 2), whole(941 + 4580));
+    assert_eq!(modulus(36, 18, 1), whole(0));
+}
+
+#[test]
+fn a_crescent_of_depth_0_is_a_sound_log() {
+    for diameter in 14..=36 {
+        for tiers in 1..=3 {
+            let log = Member { s: [diameter, 0, tiers, 0, 0, 0], ..stringer(0) };
+            assert_eq!(section_modulus(&crescent(diameter, 0, tiers)), section_modulus(&log));
+        }
+    }
 }
 
 #[test]

@@ -1,6 +1,7 @@
 //! The fast twin gives what brute force gives.
 
 use reference::generate::*;
+use reference::layout::*;
 use reference::{judge, twin};
 
 #[test]
@@ -15,6 +16,29 @@ fn the_twin_agrees_with_brute_force() {
         let (fast, slow) = (twin::judge(&survey, &vehicle), judge(&survey, &vehicle));
         assert!(slow.is_ok(), "seed {SEED:#x}, round {round}: {slow:?}");
         assert_eq!(fast, slow, "seed {SEED:#x}, round {round}");
+    }
+}
+
+/// A stringer of logs that rot from above, of the least span: the figure shows a tenth of a cm³.
+fn crescent(diameter: u16, depth: u16, tiers: u16) -> Words {
+    let mut words: Words = [0; 16];
+    [words[KIND], words[SPECIES], words[SPAN], words[SPACING]] = [1, 1, 100, 140];
+    [words[SECTION], words[S1], words[S2], words[S3]] = [5, diameter, depth, tiers];
+    words
+}
+
+#[test]
+fn the_twin_agrees_on_every_crescent() {
+    let vehicle = vehicle_bytes(&VehicleWords { class: 0, track: 190, axles: vec![[1, 0]] });
+    for diameter in 14..=36 {
+        for tiers in 1..=3 {
+            let members: Vec<Words> =
+                (0..=60).map(|depth| crescent(diameter, depth, tiers)).collect();
+            let survey = survey_bytes(&members);
+            let (fast, slow) = (twin::judge(&survey, &vehicle), judge(&survey, &vehicle));
+            assert!(slow.is_ok(), "diameter {diameter}: {slow:?}");
+            assert_eq!(fast, slow, "diameter {diameter}, {tiers} tiers");
+        }
     }
 }
 

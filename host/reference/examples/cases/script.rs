@@ -1,4 +1,4 @@
-//! A script of calls on a session, with the answers by document 01.
+//! A script of calls on a session, with the answers by the documents.
 
 use reference::{judge, reader, Member, Rated, Refused, Vehicle};
 use std::fmt::Write;

@@ -57,7 +57,7 @@ fn codes(turn: &mut Turn, kind: u16, code: u16) {
         let record = with(sound, &[(SPECIES, species)]);
         turn.refuse(&format!("kind {kind} species {species}"), record);
     }
-    for section in [0, 1, 2, 3, 4, 5, 256 + code] {
+    for section in [0, 1, 2, 3, 4, 5, 6, 256 + code] {
         if !sections(kind).contains(&section) {
             let record = with(sound, &[(SECTION, section)]);
             turn.refuse(&format!("kind {kind} section {section}"), record);
@@ -108,7 +108,7 @@ fn order(turn: &mut Turn) {
 
 /// The largest survey, each number at its first, a middle and its last place.
 fn largest(script: &mut Script) {
-    let faults = [(KIND, 0), (SPECIES, 9), (SECTION, 5), (WHOLE_B, 1), (SPAN, 99)];
+    let faults = [(KIND, 0), (SPECIES, 9), (SECTION, 6), (WHOLE_B, 1), (SPAN, 99)];
     for (i, fault) in faults.into_iter().enumerate() {
         for place in [1, 30 + i, 64] {
             let mut members = full();

@@ -84,7 +84,7 @@ fn fill_unused(random: &mut Random, words: &mut Words) -> bool {
 
 fn unsuited_section(random: &mut Random, kind: u16) -> u16 {
     loop {
-        let code = if random.once_in(2) { random.between(0, 5) } else { random.edgy(0, u16::MAX) };
+        let code = if random.once_in(2) { random.between(0, 6) } else { random.edgy(0, u16::MAX) };
         if !sections(kind).contains(&code) {
             return code;
         }

@@ -1,6 +1,7 @@
 //! Survey files that the document allows.
 
 use super::Random;
+use crate::crescent::last_depth;
 use crate::layout::*;
 
 /// How a file's numbers are spread.
@@ -16,10 +17,19 @@ pub enum Spread {
 pub(super) fn lowers(words: &Words, word: usize) -> bool {
     match words[SECTION] {
         _ if word == DEAD_LOAD => true,
-        1 => word == S2,
+        1 | 5 => word == S2,
         2 => word == S3 || word == S4 || word == S6,
         3 => word == S5,
         _ => word == S2,
+    }
+}
+
+/// The depth of a crescent: often where its row begins or ends, where all rows end, or beyond.
+fn depth(random: &mut Random, diameter: u16) -> u16 {
+    let last = last_depth(diameter);
+    match random.once_in(2) {
+        true => *random.pick(&[0, 1, last, last + 1, 17, 18, 60]),
+        false => random.between(0, last),
     }
 }
 
@@ -29,7 +39,10 @@ const USUAL_SPAN: [u16; 2] = [900, 3000];
 fn number(random: &mut Random, spread: Spread, words: &Words, limit: Limit) -> u16 {
     let (word, least, greatest) = limit;
     if spread == Spread::Wide {
-        return random.edgy(least, greatest);
+        return match (words[SECTION], word) {
+            (5, S2) => depth(random, words[S1]),
+            _ => random.edgy(least, greatest),
+        };
     }
     let greatest = match word {
         SPAN => USUAL_SPAN[usize::from(words[KIND] > 2)],
