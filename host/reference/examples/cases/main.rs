@@ -2,6 +2,7 @@
 //!
 //!     cargo run --release -p reference --example cases -- ../crates/cases
 
+mod crescents;
 mod document;
 mod edges;
 mod records;
@@ -21,6 +22,7 @@ fn script() -> Script {
     survey_faults::cases(&mut script);
     vehicle_faults::cases(&mut script);
     edges::cases(&mut script);
+    crescents::cases(&mut script);
     script
 }
 

@@ -32,13 +32,13 @@ fn headers(script: &mut Script) {
 }
 
 /// A damaged record at one of three places, in turn.
-struct Turn<'a> {
-    script: &'a mut Script,
-    place: usize,
+pub struct Turn<'a> {
+    pub script: &'a mut Script,
+    pub place: usize,
 }
 
 impl Turn<'_> {
-    fn refuse(&mut self, title: &str, record: Words) {
+    pub fn refuse(&mut self, title: &str, record: Words) {
         let mut members = three();
         members[self.place] = record;
         self.script.title(title);
