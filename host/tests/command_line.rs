@@ -103,6 +103,24 @@ fn the_field_at_fault_is_named() {
 }
 
 #[test]
+fn the_field_of_a_crescent_at_fault_is_named() {
+    let folder = Folder::new("crescents");
+    let (section, s1, s2, s4) = (7, 8, 9, 11);
+    for (word, value, words) in [
+        (section, 6, "number 6 at member 1: section: 6 is not one of: 1 log, 2 sawn, 5 crescent"),
+        (s1, 37, "number 7 at member 1: diameter (s1): 37 is outside 14 to 36 cm"),
+        (s2, 61, "number 7 at member 1: depth (s2): 61 is outside 0 to 60 cm"),
+        (s4, 1, "number 8 at member 1: s4: 1 must be 0: the section 'crescent' does not use it"),
+    ] {
+        let mut survey = sample("crescent.tbr");
+        survey[6 + 2 * word] = value;
+        let (status, out, error) = run(&["show", &folder.file("wrong.tbr", &survey)]);
+        assert_eq!((status, out.as_str()), (2, ""));
+        assert!(error.contains(&format!("wrong.tbr: survey refused, {words}\n")), "{error}");
+    }
+}
+
+#[test]
 fn files_in_the_wrong_order_get_a_hint() {
     let order = "the order is: tbr judge SURVEY VEHICLE..\n";
     for (survey, vehicle, first) in [
@@ -222,6 +240,9 @@ case-a.tbr: survey of 1 member
      section log: diameter 28 cm, rot 0 cm, tiers 1
 ";
     assert_eq!((status, text.as_str()), (0, expected));
+    let (status, text, _) = run(&["show", "crescent.tbr"]);
+    let section = "\n     section crescent: diameter 28 cm, depth 5 cm, tiers 2\n";
+    assert!(status == 0 && text.contains(section), "{text}");
     let (status, text, _) = run(&["show", "lorry.tbv"]);
     let expected = "\
 lorry.tbv: vehicle of 2 axles
@@ -234,14 +255,16 @@ lorry.tbv: vehicle of 2 axles
 
 #[test]
 fn make_goes_there_and_back() {
-    let folder = Folder::new("make");
-    let (text, file) = (folder.path("bridge.txt"), folder.path("bridge.tbr"));
-    assert_eq!(run(&["make", "--back", "forest-road.tbr", &text]).0, 0);
-    let (status, said, _) = run(&["make", &text, &file]);
-    assert_eq!((status, said), (0, format!("{file}: survey of 7 members\n")));
-    assert_eq!(std::fs::read(&file).unwrap(), sample("forest-road.tbr"));
-    let (_, printed, _) = run(&["make", "--back", "forest-road.tbr"]);
-    assert_eq!(printed, std::fs::read_to_string(&text).unwrap());
+    for (survey, members) in [("forest-road.tbr", 7), ("crescent.tbr", 3)] {
+        let folder = Folder::new("make");
+        let (text, file) = (folder.path("bridge.txt"), folder.path("bridge.tbr"));
+        assert_eq!(run(&["make", "--back", survey, &text]).0, 0);
+        let (status, said, _) = run(&["make", &text, &file]);
+        assert_eq!((status, said), (0, format!("{file}: survey of {members} members\n")));
+        assert_eq!(std::fs::read(&file).unwrap(), sample(survey));
+        let (_, printed, _) = run(&["make", "--back", survey]);
+        assert_eq!(printed, std::fs::read_to_string(&text).unwrap());
+    }
 }
 
 #[test]

@@ -133,9 +133,9 @@ fn vehicle_words(bytes: &[u8]) -> Vec<String> {
     explain(bytes, &refusal).iter().map(|fault| fault.to_string()).collect()
 }
 
-/// The forest road's survey with a word of a member, from 1, replaced.
-fn with_word(place: usize, word: usize, value: u16) -> Vec<u8> {
-    let mut bytes = FOREST_ROAD.to_vec();
+/// The survey with a word of a member, from 1, replaced.
+fn with_word(survey: &[u8], place: usize, word: usize, value: u16) -> Vec<u8> {
+    let mut bytes = survey.to_vec();
     let at = 6 + 32 * (place - 1) + 2 * word;
     bytes[at..at + 2].copy_from_slice(&value.to_le_bytes());
     bytes
@@ -159,7 +159,7 @@ fn fields_of_a_survey_at_fault() {
             "species: 0 is not one of: 1 pine, 2 spruce, 3 larch, 4 cedar, 5 fir, 6 oak, \
                    7 ash, 7 maple, 7 hornbeam, 8 beech",
         ),
-        (1, 7, 4, "section: 4 is not one of: 1 log, 2 sawn"),
+        (1, 7, 4, "section: 4 is not one of: 1 log, 2 sawn, 5 crescent"),
         (1, 2, 99, "span (l): 99 is outside 100 to 5000 cm"),
         (1, 8, 40, "diameter (s1): 40 is outside 13 to 39 cm"),
         (1, 4, 7, "x: 7 must be 0: the kind 'stringer' does not use it"),
@@ -176,14 +176,34 @@ fn fields_of_a_survey_at_fault() {
         (plates, 1, 1, "species: 1 must be 0: the kind 'steel plates' does not use it"),
         (plates, 15, 0, "chord whole (B): 0 is outside 1 to 1000"),
     ] {
-        assert_eq!(survey_words(&with_word(place, word, value)), [words], "{place} {word}");
+        let bytes = with_word(FOREST_ROAD, place, word, value);
+        assert_eq!(survey_words(&bytes), [words], "{place} {word}");
+    }
+}
+
+const CRESCENT: &[u8] = include_bytes!("../../samples/crescent.tbr");
+
+#[test]
+fn fields_of_a_crescent_at_fault() {
+    let (kind, section, s1, s2, s3, s4, s6) = (0, 7, 8, 9, 10, 11, 13);
+    for (word, value, words) in [
+        (kind, 5, "section: 5 is not one of: 4 area"),
+        (section, 6, "section: 6 is not one of: 1 log, 2 sawn, 5 crescent"),
+        (s1, 13, "diameter (s1): 13 is outside 14 to 36 cm"),
+        (s1, 37, "diameter (s1): 37 is outside 14 to 36 cm"),
+        (s2, 61, "depth (s2): 61 is outside 0 to 60 cm"),
+        (s3, 4, "tiers (s3): 4 is outside 1 to 3"),
+        (s4, 1, "s4: 1 must be 0: the section 'crescent' does not use it"),
+        (s6, 9, "s6: 9 must be 0: the section 'crescent' does not use it"),
+    ] {
+        assert_eq!(survey_words(&with_word(CRESCENT, 2, word, value)), [words], "{word}");
     }
 }
 
 /// All fields of the record that the number is about.
 #[test]
 fn several_fields_at_fault() {
-    let mut bytes = with_word(1, 2, 99);
+    let mut bytes = with_word(FOREST_ROAD, 1, 2, 99);
     bytes[6 + 16..6 + 18].copy_from_slice(&[40, 0]);
     let span = "span (l): 99 is outside 100 to 5000 cm";
     assert_eq!(survey_words(&bytes), [span, "diameter (s1): 40 is outside 13 to 39 cm"]);

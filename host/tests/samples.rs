@@ -10,7 +10,7 @@ fn sample(name: &str) -> Vec<u8> {
 
 #[test]
 fn text_forms_and_files_agree() {
-    for name in ["case-a.tbr", "case-l.tbv", "forest-road.tbr", "lorry.tbv"] {
+    for name in ["case-a.tbr", "case-l.tbv", "crescent.tbr", "forest-road.tbr", "lorry.tbv"] {
         let stem = name.split('.').next().unwrap();
         let made = form::read(&sample(&format!("{stem}.txt")));
         let made = made.unwrap_or_else(|faults| panic!("{stem}.txt: {faults:?}"));
@@ -22,6 +22,19 @@ fn text_forms_and_files_agree() {
 fn case_a_with_the_vehicle_of_case_l_passes() {
     let judgement = judge(&sample("case-a.tbr"), &sample("case-l.tbv")).unwrap();
     assert_eq!((judgement.figure, judgement.governing, judgement.passes), (1720, 1, true));
+}
+
+/// Logs that rot from above bear the lorry; the same rot counted all round condemns them.
+#[test]
+fn the_bank_span_bears_the_lorry() {
+    let (survey, vehicle) = (sample("crescent.tbr"), sample("lorry.tbv"));
+    let judgement = judge(&survey, &vehicle).unwrap();
+    assert_eq!((judgement.figure, judgement.governing, judgement.passes), (2857, 1, true));
+    let mut members = tbr::file::members(&survey);
+    members.iter_mut().for_each(|words| words[7] = 1);
+    let all_round = tbr::file::Contents::Survey(members).bytes().unwrap();
+    let judgement = judge(&all_round, &vehicle).unwrap();
+    assert_eq!((judgement.figure, judgement.governing, judgement.passes), (1720, 1, false));
 }
 
 /// All six kinds; the governing member is not the one with the least margin.

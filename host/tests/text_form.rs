@@ -132,6 +132,14 @@ fn hold_limits(before: &str, line: &str, fields: &[&Field]) {
     }
 }
 
+/// The least number that a field takes.
+fn least(field: &Field) -> u16 {
+    match field.value {
+        Value::Number(limits) => limits.least,
+        Value::Word(all) => all[0].1,
+    }
+}
+
 #[test]
 fn the_limits_of_every_field_of_every_kind_and_section() {
     for kind in &KINDS {
@@ -144,7 +152,7 @@ fn the_limits_of_every_field_of_every_kind_and_section() {
             let mut words = [1; 16];
             [words[0], words[7]] = [kind.code, section.code];
             [words[2], words[3], words[4], words[5]] = [5000, 10, 10, 10];
-            [words[8], words[15]] = [if *code == 1 { 13 } else { 1 }, 1000];
+            [words[8], words[15]] = [least(&section.fields[0]), 1000];
             let text = write(&Contents::Survey(vec![words])).unwrap();
             let line = text.lines().nth(1).unwrap();
             let fields = kind.fields.iter().chain(section.fields_in(kind));
@@ -233,7 +241,7 @@ fn errors_of_a_member() {
     );
     assert_eq!(
         stringer("section log", "section area"),
-        "line 3, section: 'area' is not one of: log, sawn"
+        "line 3, section: 'area' is not one of: log, sawn, crescent"
     );
     assert_eq!(stringer(", section log", ""), "line 3, section: is missing");
     assert_eq!(stringer(", span 500 cm", ""), "line 3, span: is missing");
@@ -245,6 +253,34 @@ fn errors_of_a_member() {
     let log = "section log, diameter 28 cm, rot 0 cm, tiers 1";
     let lost = "line 3, 'lost area 0 cm2': there is no such field here";
     assert_eq!(stringer(log, sawn), lost, "a beam in bending has no lost area");
+}
+
+/// The section's own fields and limits, not those of the log beside it.
+#[test]
+fn errors_of_a_crescent() {
+    let log = "section log, diameter 28 cm, rot 0 cm, tiers 1";
+    let crescent = |diameter, depth| {
+        format!("section crescent, diameter {diameter} cm, depth {depth} cm, tiers 1")
+    };
+    let line = STRINGER.replace(log, &crescent(14, 2));
+    let contents = read(format!("survey\n{line}\n").as_bytes()).unwrap();
+    let Contents::Survey(members) = &contents else { panic!("{contents:?}") };
+    assert_eq!(members[0], [1, 1, 500, 140, 0, 0, 100, 5, 14, 2, 1, 0, 0, 0, 0, 0]);
+    assert_eq!(write(&contents).unwrap(), format!("survey\n{line}\n"));
+    for (diameter, depth, words) in [
+        (13, 2, "diameter: 13 is outside 14 to 36 cm"),
+        (37, 2, "diameter: 37 is outside 14 to 36 cm"),
+        (39, 2, "diameter: 39 is outside 14 to 36 cm"),
+        (14, 61, "depth: 61 is outside 0 to 60 cm"),
+    ] {
+        assert_eq!(stringer(log, &crescent(diameter, depth)), format!("line 3, {words}"));
+    }
+    let rot = STRINGER.replace("section log", "section crescent");
+    let expected = ["line 2, 'rot 0 cm': there is no such field here", "line 2, depth: is missing"];
+    assert_eq!(faults(format!("survey\n{rot}\n").as_bytes()), expected.join("\n"));
+    let chord = "survey\nchord, species pine, span 1000 cm, spacing 500 cm, from support 200 cm, \
+                 truss height 150 cm, dead load 500 kgf/m, section crescent";
+    assert_eq!(error(chord), "line 2, section: 'crescent' is not one of: sawn");
 }
 
 #[test]

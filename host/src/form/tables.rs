@@ -89,7 +89,8 @@ const JOINT_PART: Field =
     number("joint part", 14, 1, 1000, "").within(Within::AtMost(&CHORD_WHOLE));
 const CHORD_WHOLE: Field = number("chord whole", 15, 1, 1000, "");
 
-const IN_BENDING: Field = words("section", SECTION_WORD, &[("log", 1), ("sawn", 2)]);
+const IN_BENDING: Field =
+    words("section", SECTION_WORD, &[("log", 1), ("sawn", 2), ("crescent", 5)]);
 const OF_CHORD: Field = words("section", SECTION_WORD, &[("sawn", 2)]);
 const OF_DOWELS: Field = words("section", SECTION_WORD, &[("dowels", 3)]);
 const OF_AREA: Field = words("section", SECTION_WORD, &[("area", 4)]);
@@ -136,11 +137,11 @@ pub static KINDS: [Kind; 6] = [
     Kind { name: "steel plates", code: 6, in_bending: false, fields: JOINT_IN_AREA.split_at(1).1 },
 ];
 
-const LOG: [Field; 3] = [
-    number("diameter", 8, 13, 39, "cm"),
-    number("rot", 9, 0, 60, "cm"),
-    number("tiers", 10, 1, 3, ""),
-];
+const TIERS: Field = number("tiers", 10, 1, 3, "");
+const LOG: [Field; 3] = [number("diameter", 8, 13, 39, "cm"), number("rot", 9, 0, 60, "cm"), TIERS];
+/// A log that rots from above; only these diameters have a row in appendix 3.
+const CRESCENT: [Field; 3] =
+    [number("diameter", 8, 14, 36, "cm"), number("depth", 9, 0, 60, "cm"), TIERS];
 /// Lost area last: a beam in bending has none.
 const SAWN: [Field; 6] = [
     number("width", 8, 1, 60, "cm"),
@@ -161,12 +162,13 @@ const DOWELS: [Field; 6] = [
 const AREA: [Field; 2] =
     [number("area", 8, 1, 10000, "cm2"), number("lost area", 9, 0, 10000, "cm2")];
 
-/// The four sections by code.
-pub static SECTIONS: [Section; 4] = [
+/// The five sections by code.
+pub static SECTIONS: [Section; 5] = [
     Section { name: "log", code: 1, fields: &LOG },
     Section { name: "sawn", code: 2, fields: &SAWN },
     Section { name: "dowels", code: 3, fields: &DOWELS },
     Section { name: "area", code: 4, fields: &AREA },
+    Section { name: "crescent", code: 5, fields: &CRESCENT },
 ];
 
 impl Kind {
