@@ -10,9 +10,10 @@ use native.Mathlib.Omega.{arith}
 use lib.Dec.{eqb, leb}
 use borrow.Author.Tests.{eqb-true, le-leb, lt-leb, ne-eqb}
 use Rattle.section.specs.Choose.{choose, all}
+use Rattle.section.proofs.Crescents.{row-range}
 use Rattle.section.proofs.Table.{all-at}
 use Rattle.member.specs.Fields.{KIND, SPECIES, SPAN, SPACING, DISTANCE, HEIGHT, DEAD-LOAD, CODE, S1, S2, S3, S4, S5, S6, MU-A, MU-B, FIELDS, LAST-CODE, field}
-use Rattle.member.specs.Format.{AllowedMember, Range, _‥_, In, used, unusedByKind, unusedByCode, ranges, rangeOf, sectionRange, sectionRanges, suits, bending}
+use Rattle.member.specs.Format.{AllowedMember, Range, _‥_, In, used, unusedByKind, unusedByCode, ranges, rangeOf, sectionRange, sectionRanges, RangeOfRows, suits, bending}
 use Rattle.member.specs.declared.record.Member.{Member}
 
 -- what holds at every code that suits a kind
@@ -75,6 +76,10 @@ module _ {m : Member} (a : AllowedMember m) where
       In (rangeOf kind code (field m SPAN) f) (field m f)
   in-range-of kind code f e c h t =
       subst₂ (λ (k d : ℕ). used k d f ≡ true → In (rangeOf k d (field m SPAN) f) (field m f)) e c (a .range f h) t
+
+pub range-of-rows : RangeOfRows
+unfolding sectionRange sectionRanges
+range-of-rows d = (λ h. (row-range d .1 h, omega (arith, h)), λ h. row-range d .0 (h .0))
 
 -- the sizes of the sections, by code; those of codes 1 and 5 from their least diameter to their greatest
 pub record LogSizes (m : Member) (least greatest : ℕ) : Type 0 where

@@ -4,9 +4,11 @@ use Prim.Native.Nat.{ℕ, _-_, _≤_, _<_}
 use mathlib.Core.Path.{_≡_}
 use mathlib.Core.Bool.{Bool, true, false, not, _&&_, _||_}
 use mathlib.Core.List.{List, [], _∷_, _++_}
-use lib.ListN.{getD}
+use mathlib.Core.Logic.{_↔_}
+use lib.ListN.{length, getD}
 use lib.Dec.{eqb, leb}
 use Rattle.section.specs.Choose.{choose}
+use Rattle.section.specs.Crescent.{crescentTable, rowOf}
 use Rattle.section.specs.Units.{weight, distance}
 use Rattle.member.specs.Fields.{KIND, SPECIES, SPAN, SPACING, DISTANCE, HEIGHT, CODE, S3, S4, S5, S6, MU-A, MU-B, FIELDS, LAST-CODE, MOST-AXLES, field}
 use Rattle.member.specs.declared.record.Member.{Member}
@@ -24,8 +26,7 @@ a ‥ b = record { low = a; high = b }
 abbrev pub In : Range → ℕ → Type 0
 In r n = (r .low ≤ n) × (n ≤ r .high)
 
--- "Section code and its fields s1 to s6", each with its range. Code 5: "s1 diameter, s2 depth 0..60, s3 tiers 1..3"; "A diameter without
--- a row, or above 39, is out of range", and the rows are 14 to 36
+-- "Section code and its fields s1 to s6", each with its range. Code 5: "s1 diameter, s2 depth 0..60, s3 tiers 1..3", by the rows of appendix 3
 unfoldable pub sectionRanges : ℕ → List Range
 sectionRanges code =
     choose (eqb code 1) (13 ‥ 39 ∷ 0 ‥ 60 ∷ 1 ‥ 3 ∷ [])
@@ -36,6 +37,10 @@ sectionRanges code =
 
 unfoldable pub sectionRange : (code s : ℕ) → Range
 sectionRange code s = getD (sectionRanges code) s (0 ‥ 0)
+
+-- "A diameter without a row, or above 39, is out of range": the range of code 5 is that of the diameters that have a row
+abbrev pub RangeOfRows : Type 0
+RangeOfRows = (diameter : ℕ) → In (sectionRange 5 0) diameter ↔ ((0 < length (rowOf diameter crescentTable)) × (diameter ≤ 39))
 
 -- "In bending (kinds 1 and 2)"
 unfoldable pub bending : ℕ → Bool

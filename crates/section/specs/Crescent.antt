@@ -49,7 +49,7 @@ crescentTable =
     36 ∥ inWhole (4281 ∷ 3994 ∷ 3717 ∷ 3451 ∷ 3197 ∷ 2954 ∷ 2721 ∷ 2499 ∷ 2289 ∷ 2088 ∷ 1898 ∷ 1719 ∷ 1549 ∷ 1390 ∷ 1241 ∷ 1101 ∷ 941 ∷ []) ∷
     []
 
--- the row of a diameter, empty for "a diameter without a row"
+-- the row of a diameter, empty where there is none
 abbrev pub rowOf : (diameter : ℕ) → List Row → List ℕ
 rowOf diameter [] = []
 rowOf diameter (r ∷ rs) = choose (eqb diameter (r .diameter)) (r .printed) (rowOf diameter rs)

@@ -17,7 +17,7 @@ const MODULUS: [u64; 391] = [
     925,
     694,
     500,
-    0,
+    0, // 14 has ended
     0,
     0,
     0,
@@ -34,7 +34,7 @@ const MODULUS: [u64; 391] = [
     1243,
     962,
     720,
-    0,
+    0, // 15 has ended
     0,
     0,
     0,
@@ -52,7 +52,7 @@ const MODULUS: [u64; 391] = [
     1290,
     1000,
     750,
-    0,
+    0, // 16 has ended
     0,
     0,
     0,
@@ -69,7 +69,7 @@ const MODULUS: [u64; 391] = [
     1680,
     1330,
     1030,
-    0,
+    0, // 17 has ended
     0,
     0,
     0,
@@ -87,7 +87,7 @@ const MODULUS: [u64; 391] = [
     1740,
     1380,
     1050,
-    0,
+    0, // 18 has ended
     0,
     0,
     0,
@@ -104,7 +104,7 @@ const MODULUS: [u64; 391] = [
     2220,
     1790,
     1420,
-    0,
+    0, // 19 has ended
     0,
     0,
     0,
@@ -122,7 +122,7 @@ const MODULUS: [u64; 391] = [
     2270,
     1840,
     1460,
-    0,
+    0, // 20 has ended
     0,
     0,
     0,
@@ -139,7 +139,7 @@ const MODULUS: [u64; 391] = [
     2850,
     2340,
     1890,
-    0,
+    0, // 21 has ended
     0,
     0,
     0,
@@ -157,7 +157,7 @@ const MODULUS: [u64; 391] = [
     2920,
     2400,
     1940,
-    0,
+    0, // 22 has ended
     0,
     0,
     0,
@@ -174,7 +174,7 @@ const MODULUS: [u64; 391] = [
     3590,
     3000,
     2460,
-    0,
+    0, // 23 has ended
     0,
     0,
     0,
@@ -192,7 +192,7 @@ const MODULUS: [u64; 391] = [
     3680,
     3070,
     2520,
-    0,
+    0, // 24 has ended
     0,
     0,
     0,
@@ -209,7 +209,7 @@ const MODULUS: [u64; 391] = [
     4450,
     3760,
     3140,
-    0,
+    0, // 25 has ended
     0,
     0,
     0,
@@ -227,7 +227,7 @@ const MODULUS: [u64; 391] = [
     4550,
     3840,
     3200,
-    0,
+    0, // 26 has ended
     0,
     0,
     0,
@@ -244,7 +244,7 @@ const MODULUS: [u64; 391] = [
     5440,
     4640,
     3920,
-    0,
+    0, // 27 has ended
     0,
     0,
     0,
@@ -262,7 +262,7 @@ const MODULUS: [u64; 391] = [
     5550,
     4740,
     4000,
-    0,
+    0, // 28 has ended
     0,
     0,
     22010, // 29
@@ -279,7 +279,7 @@ const MODULUS: [u64; 391] = [
     6560,
     5660,
     4830,
-    0,
+    0, // 29 has ended
     0,
     0,
     24440, // 30
@@ -297,7 +297,7 @@ const MODULUS: [u64; 391] = [
     6690,
     5770,
     4920,
-    0,
+    0, // 30 has ended
     0,
     27040, // 31
     24920,
@@ -314,7 +314,7 @@ const MODULUS: [u64; 391] = [
     7830,
     6810,
     5870,
-    0,
+    0, // 31 has ended
     0,
     29810, // 32
     27550,
@@ -332,7 +332,7 @@ const MODULUS: [u64; 391] = [
     7970,
     6930,
     5970,
-    0,
+    0, // 32 has ended
     32770, // 33
     30370,
     28060,
@@ -349,7 +349,7 @@ const MODULUS: [u64; 391] = [
     9260,
     8110,
     7050,
-    0,
+    0, // 33 has ended
     35950, // 34
     33360,
     30910,
@@ -406,7 +406,8 @@ const MODULUS: [u64; 391] = [
 // W of one log.
 pub fn crescent_modulus(diameter: Cm, depth: Cm) -> u64
     requires { ⌜ (14 ≤ diameter .0) × (diameter .0 ≤ 36) ⌝ }
-    ensures { λ r. ⌜ r ≡ crescentModulus (diameter .0) (depth .0) ⌝ }
+    ensures is { λ r. ⌜ r ≡ crescentModulus (diameter .0) (depth .0) ⌝ }
+    ensures cap { λ r. ⌜ r ≤ 58240 ⌝ }
 {
     if depth.0 == 0 {
         return 10 * log_modulus(diameter);
@@ -430,10 +431,13 @@ pub struct Crescent {
 // The top log has the crescent, the others are sound.
 pub fn tiered_crescent(s: Crescent) -> u64
     requires { ⌜ (14 ≤ s .diameter .0) × (s .diameter .0 ≤ 36) × (1 ≤ s .tiers) × (s .tiers ≤ 3) ⌝ }
-    ensures { λ r. ⌜ r ≡ tieredCrescent (s .diameter .0) (s .depth .0) (s .tiers) ⌝ }
+    ensures is { λ r. ⌜ r ≡ tieredCrescent (s .diameter .0) (s .depth .0) (s .tiers) ⌝ }
+    ensures cap { λ r. ⌜ r ≤ 174720 ⌝ }
 {
     let diameter = s.diameter;
-    let depth = s.depth;
+    let depth = s.depth.0;
     let tiers = s.tiers;
-    crescent_modulus(diameter, depth) + (tiers - 1) * (10 * log_modulus(diameter))
+    let top = crescent_modulus(diameter, Cm(depth));
+    let sound = crescent_modulus(diameter, Cm(0));
+    top + (tiers - 1) * sound
 }

@@ -7,7 +7,6 @@ use borrow.Author.Tests.{eq-eqb, ne-eqb}
 use Rattle.section.specs.Crescent.{tieredCrescent}
 use Rattle.section.specs.Fraction.{over, whole, tenths}
 use Rattle.section.specs.Log.{tieredModulus}
-use Rattle.section.proofs.Crescents.{tiered-crescent-cap}
 use Rattle.section.proofs.Order.{scaled}
 use Rattle.section.proofs.Sections.{tiered-modulus-cap}
 use Rattle.member.specs.Fields.{CODE, S1, S2, S3, field}
@@ -62,23 +61,17 @@ tiered-crescent-requires : tie.Need-tiered-crescent-requires
 tiered-crescent-requires c κs = omega (arith, crescent c, c .crescent .ensures)
 
 tenths-of : (c : tie.After-tiered-crescent) → let m = c .before .before .before .before .before .args .m in c .tiered-crescent .result ≡ tieredCrescent (field m S1) (field m S2) (field m S3)
-tenths-of c = let s = c .before .crescent .ensures in rw (s .0, s .1, s .2) at (c .tiered-crescent .ensures)
-
-tenths-cap : (c : tie.After-tiered-crescent) → c .tiered-crescent .result ≤ 174720
-tenths-cap c =
-    let m = c .before .before .before .before .before .args .m in
-    let s = crescent (c .before) in
-    omega (arith, tenths-of c, tiered-crescent-cap (field m S1) (field m S2) _ (omega (arith, s .diameter-high)) (s .tiers-high))
+tenths-of c = let s = c .before .crescent .ensures in rw (s .0, s .1, s .2) at (c .tiered-crescent .ensures .0)
 
 mul-result-2 : tie.Need-mul-result-2
-mul-result-2 c = omega (arith, tenths-cap c)
+mul-result-2 c = omega (arith, c .tiered-crescent .ensures .1)
 
 returns-2 : tie.Need-returns-2
 unfolding sectionModulus over tenths
 returns-2 c =
     let m = c .before .before .before .before .before .args .m in
     let e = five (c .before .before) in
-    (rw (ne-eqb (field m CODE) 1 (omega (arith, e)), eq-eqb _ _ e) (omega (arith, tenths-of c)), omega (arith, tenths-cap c))
+    (rw (ne-eqb (field m CODE) 1 (omega (arith, e)), eq-eqb _ _ e) (omega (arith, tenths-of c)), omega (arith, c .tiered-crescent .ensures .1))
 
 -- code 2
 two : (c : tie.Else2) → field (c .before .before .before .args .m) CODE ≡ 2

@@ -6,8 +6,9 @@ use mathlib.Core.Path.{_≡_, refl}
 use native.Mathlib.Omega.{arith}
 use Rattle.section.specs.Crescent.{crescentModulus, crescentRow, crescentTable}
 use Rattle.section.specs.Log.{logModulus, logTable}
-use Rattle.section.proofs.Crescents.{sound-crescent, past-the-end, crescent-entry}
+use Rattle.section.proofs.Crescents.{sound-crescent, past-the-page, crescent-entry}
 use Rattle.section.proofs.Sections.{log-modulus-cap}
+use Rattle.section.proofs.Table.{at-most}
 use borrow.Author.Needs.{needs}
 use Rattle.section.proofs.crescent.crescent_modulus.Statement.{statement}
 use Rattle.section.proofs.crescent.crescent_modulus.Tie as tie
@@ -15,21 +16,24 @@ use Rattle.section.proofs.crescent.crescent_modulus.Tie as tie
 log-modulus-requires : tie.Need-log-modulus-requires
 log-modulus-requires c κs = search needs
 
-mul-result : tie.Need-mul-result
-mul-result c =
+sound : (c : tie.After-log-modulus) → c .log-modulus .result ≤ 5824
+sound c =
     let a = c .before .before .before .args in
     omega (arith, c .log-modulus .ensures, log-modulus-cap (a .diameter .0) (omega arith))
+
+mul-result : tie.Need-mul-result
+mul-result c = omega (arith, sound c)
 
 returns : tie.Need-returns
 returns c =
     let a = c .before .before .before .args in
     let none : a .depth .0 ≡ 0 = omega arith in
-    rw (none, sound-crescent (a .diameter .0), c .log-modulus .ensures)
+    (rw (none, sound-crescent (a .diameter .0), c .log-modulus .ensures), omega (arith, sound c))
 
 returns-2 : tie.Need-returns-2
 returns-2 c =
     let a = c .before .before .before .before .args in
-    rw (past-the-end (a .diameter .0) (a .depth .0) (omega arith) (omega arith) (omega arith))
+    (rw (past-the-page (a .diameter .0) (a .depth .0) (omega arith)), omega arith)
 
 sub-row : tie.Need-sub-row
 sub-row c = search needs
@@ -57,7 +61,7 @@ returns-3 c =
     let printed : a .depth .0 ≤ 17 = omega arith in
     let low : 14 ≤ a .diameter .0 = omega arith in
     let high : a .diameter .0 ≤ 36 = omega arith in
-    search crescent-entry
+    (search crescent-entry, search at-most)
 
 pub crescent-modulus-spec : {M : Type 1} → statement M
 crescent-modulus-spec =
