@@ -1,7 +1,7 @@
 -- The answer of a reading, and the order of its tests. A test that fails is a number of document 01, 'Calls'; 0 is none.
-use Prim.Native.Nat.{ℕ, zero, suc}
+use Prim.Native.Nat.{ℕ, suc}
 use mathlib.Core.List.{List, [], _∷_}
-use mathlib.Core.Bool.{Bool, true, _&&_}
+use mathlib.Core.Bool.{Bool, _&&_}
 use lib.Dec.{eqb, leb}
 use Rattle.section.specs.Choose.{choose}
 use Rattle.member.specs.Format.{Range}

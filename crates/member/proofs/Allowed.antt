@@ -4,6 +4,7 @@
 use Prim.Native.Nat.{ℕ, suc, _-_, _≤_, _<_}
 use mathlib.Core.Path.{_≡_, refl, subst, subst₂}
 use mathlib.Core.Bool.{Bool, true, false, _||_}
+use mathlib.Core.List.{[], _∷_}
 use mathlib.Core.Logic.{⊎-elim, _⊎_, inl, inr}
 use native.Mathlib.Decide.{decLe}
 use native.Mathlib.Omega.{arith}
@@ -117,21 +118,24 @@ module _ {m : Member} (a : AllowedMember m) where
       (λ e. subst (λ (r : Range). In r (field m f)) same (in-range-of a 2 code f e c below u2))
       (one-or-two h)
 
-  pub log-sizes : field m KIND ≤ 2 → field m CODE ≡ 1 → LogSizes m 13 39
-  unfolding used unusedByKind unusedByCode bending rangeOf ranges sectionRange sectionRanges
-  log-sizes h c =
-      let s1 = in-bending h 1 S1 c (omega arith) refl refl refl in
-      let s2 = in-bending h 1 S2 c (omega arith) refl refl refl in
-      let s3 = in-bending h 1 S3 c (omega arith) refl refl refl in
+  -- the logs of codes 1 and 5 have s1 to s3
+  logs : field m KIND ≤ 2 → (code least greatest : ℕ) → field m CODE ≡ code → sectionRanges code ≡ least ‥ greatest ∷ 0 ‥ 60 ∷ 1 ‥ 3 ∷ [] →
+      ((kind : ℕ) → unusedByCode kind code ≡ S4 ∷ S5 ∷ S6 ∷ []) →
+      LogSizes m least greatest
+  unfolding used unusedByKind rangeOf ranges sectionRange
+  logs h code least greatest c r u =
+      let s1 = rw r at (in-bending h code S1 c (omega arith) (rw (u 1)) (rw (u 2)) refl) in
+      let s2 = rw r at (in-bending h code S2 c (omega arith) (rw (u 1)) (rw (u 2)) refl) in
+      let s3 = rw r at (in-bending h code S3 c (omega arith) (rw (u 1)) (rw (u 2)) refl) in
       record { diameter-low = s1 .0; diameter-high = s1 .1; rot = s2 .1; tiers-low = s3 .0; tiers-high = s3 .1 }
 
+  pub log-sizes : field m KIND ≤ 2 → field m CODE ≡ 1 → LogSizes m 13 39
+  unfolding unusedByCode sectionRanges
+  log-sizes h c = logs h 1 13 39 c refl (λ k. refl)
+
   pub crescent-sizes : field m KIND ≤ 2 → field m CODE ≡ 5 → LogSizes m 14 36
-  unfolding used unusedByKind unusedByCode bending rangeOf ranges sectionRange sectionRanges
-  crescent-sizes h c =
-      let s1 = in-bending h 5 S1 c (omega arith) refl refl refl in
-      let s2 = in-bending h 5 S2 c (omega arith) refl refl refl in
-      let s3 = in-bending h 5 S3 c (omega arith) refl refl refl in
-      record { diameter-low = s1 .0; diameter-high = s1 .1; rot = s2 .1; tiers-low = s3 .0; tiers-high = s3 .1 }
+  unfolding unusedByCode sectionRanges
+  crescent-sizes h c = logs h 5 14 36 c refl (λ k. refl)
 
   sawn-of : (k : ℕ) → field m KIND ≡ k → field m CODE ≡ 2 → used k 2 S1 ≡ true → used k 2 S2 ≡ true → used k 2 S5 ≡ true → SawnSizes m
   unfolding rangeOf ranges sectionRange sectionRanges

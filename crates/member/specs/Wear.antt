@@ -14,7 +14,9 @@ use Rattle.member.specs.declared.record.Member.{Member}
 
 unfoldable pub rotFields : (code : ℕ) → List ℕ
 rotFields code =
-    choose (eqb code 1) (S2 ∷ []) (choose (eqb code 2) (S3 ∷ S4 ∷ []) (choose (eqb code 3) (S5 ∷ [])
+    choose (eqb code 1) (S2 ∷ [])
+    (choose (eqb code 2) (S3 ∷ S4 ∷ [])
+    (choose (eqb code 3) (S5 ∷ [])
     (choose (eqb code 5) (S2 ∷ []) [])))
 
 unfoldable pub lostFields : (code : ℕ) → List ℕ

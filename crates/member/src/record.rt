@@ -133,21 +133,6 @@ impl Member {
         }
     }
 
-    // The section of code 5: s1 diameter, s2 depth of the crescent, s3 tiers.
-    pub fn crescent(self) -> Crescent
-        requires { ⌜ field self CODE ≡ 5 ⌝ }
-        ensures { λ r. ⌜ (r .diameter .0 ≡ field self S1) × (r .depth .0 ≡ field self S2) × (r .tiers ≡ field self S3) ⌝ }
-    {
-        let diameter = Cm(self.number(S1));
-        let depth = Cm(self.number(S2));
-        let tiers = self.number(S3);
-        Crescent {
-            diameter,
-            depth,
-            tiers,
-        }
-    }
-
     // The section of code 2: s1 width, s2 height, s3 side rot, s4 top rot, s5 pieces, s6 lost area.
     pub fn sawn(self) -> Sawn
         requires { ⌜ field self CODE ≡ 2 ⌝ }
@@ -187,6 +172,21 @@ impl Member {
             outer,
             rot,
             cuts,
+        }
+    }
+
+    // The section of code 5: s1 diameter, s2 depth of the crescent, s3 tiers.
+    pub fn crescent(self) -> Crescent
+        requires { ⌜ field self CODE ≡ 5 ⌝ }
+        ensures { λ r. ⌜ (r .diameter .0 ≡ field self S1) × (r .depth .0 ≡ field self S2) × (r .tiers ≡ field self S3) ⌝ }
+    {
+        let diameter = Cm(self.number(S1));
+        let depth = Cm(self.number(S2));
+        let tiers = self.number(S3);
+        Crescent {
+            diameter,
+            depth,
+            tiers,
         }
     }
 }
