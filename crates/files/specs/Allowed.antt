@@ -1,4 +1,4 @@
--- What document 01 allows a survey file and a vehicle file to be, with no order of tests in it.
+-- What the documents allow a survey file and a vehicle file to be, with no order of tests in it.
 use Prim.Native.Nat.{ℕ, _+_, _*_, _<_}
 use mathlib.Core.Path.{_≡_}
 use mathlib.Core.List.{List, [], _∷_}

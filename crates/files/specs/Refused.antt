@@ -77,7 +77,7 @@ pub data MemberFault (m : Member) : ℕ → Type 0 where
   -- "as A above B"
   A-above-B : KindGood m → SpeciesGood m → SectionGood m → UnusedGood m → field m MU-B < field m MU-A → MemberFault m 7
 
--- the header is good, the record of index i is the first that document 01 does not allow, and this is its fault
+-- the header is good, the record of index i is the first that the documents do not allow, and this is its fault
 pub record FirstRecord (bytes : List ℕ) (number i : ℕ) : Type 0 where
   pub headed : Headed 82 SURVEY-HEADER MOST-MEMBERS RECORD bytes
   pub within : i < countOf bytes

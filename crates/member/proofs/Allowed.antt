@@ -8,12 +8,12 @@ use mathlib.Core.List.{[], _∷_}
 use mathlib.Core.Logic.{⊎-elim, _⊎_, inl, inr}
 use native.Mathlib.Decide.{decLe}
 use native.Mathlib.Omega.{arith}
-use lib.Dec.{eqb, leb}
+use lib.Dec.{eqb}
 use borrow.Author.Tests.{eqb-true, le-leb, lt-leb, ne-eqb}
 use Rattle.section.specs.Choose.{choose, all}
 use Rattle.section.proofs.Crescents.{row-range}
 use Rattle.section.proofs.Table.{all-at}
-use Rattle.member.specs.Fields.{KIND, SPECIES, SPAN, SPACING, DISTANCE, HEIGHT, DEAD-LOAD, CODE, S1, S2, S3, S4, S5, S6, MU-A, MU-B, FIELDS, LAST-CODE, field}
+use Rattle.member.specs.Fields.{KIND, SPAN, CODE, S1, S2, S3, S4, S5, S6, FIELDS, LAST-CODE, field}
 use Rattle.member.specs.Format.{AllowedMember, Range, _‥_, In, used, unusedByKind, unusedByCode, ranges, rangeOf, sectionRange, sectionRanges, RangeOfRows, suits, bending}
 use Rattle.member.specs.declared.record.Member.{Member}
 
@@ -102,7 +102,7 @@ pub record DowelSizes (m : Member) : Type 0 where
   pub cuts : field m S6 ≤ 200
 
 module _ {m : Member} (a : AllowedMember m) where
-  -- a member in bending is of kind 1 or 2, and its section is a log or sawn
+  -- a member in bending is of kind 1 or 2
   one-or-two : field m KIND ≤ 2 → (field m KIND ≡ 1) ⊎ (field m KIND ≡ 2)
   one-or-two h = go (field m KIND) (a .kind .0) h
     where

@@ -6,7 +6,7 @@ use mathlib.Core.Path.{_≡_, refl, sym, subst, _∙_}
 use mathlib.Core.Bool.{Bool, true, false, not}
 use native.Mathlib.Omega.{arith}
 use lib.Dec.{eqb}
-use borrow.Author.Tests.{eq-eqb, ne-eqb}
+use borrow.Author.Tests.{eqb-true, eqb-false, eq-eqb, ne-eqb}
 use Rattle.section.specs.Choose.{choose, all}
 use Rattle.section.specs.Fraction.{Fraction, Sound, over, whole, hundredths, _⊑_, _≐_}
 use Rattle.section.specs.Species.{bendingFactor, shearFactor}
@@ -17,8 +17,8 @@ use Rattle.section.proofs.Terms.{dowel-capacity-falls}
 use Rattle.member.specs.Fields.{KIND, SPECIES, SPAN, SPACING, DISTANCE, HEIGHT, DEAD-LOAD, CODE, S1, S2, S3, S4, S5, S6, MU-A, MU-B, FIELDS, LAST-CODE, field}
 use Rattle.member.specs.Format.{AllowedMember, used, unusedByKind, unusedByCode, suits, bending}
 use Rattle.member.specs.Formula.{Formula, Valid, permitted, Permitted, dowelled, keyed, plates}
-use Rattle.member.specs.Wear.{rotFields, lostFields, wears, Worn}
-use Rattle.member.specs.PermittedLoad.{distribution, loadFactor, sectionModulus, netArea, capacity, jointFront, stringerOf, crossBeamOf, chordOf, jointOf, formulaOf, permittedLoad}
+use Rattle.member.specs.Wear.{rotFields, lostFields, wears, Worn, DepthIsRot}
+use Rattle.member.specs.PermittedLoad.{sectionModulus, netArea, capacity, jointFront, stringerOf, crossBeamOf, chordOf, jointOf, formulaOf, permittedLoad}
 use Rattle.member.specs.Sizes.{Spaced, Inside, Ratio}
 use Rattle.member.specs.declared.record.Member.{Member}
 use Rattle.member.proofs.Allowed.{of-code, log-sizes, chord-code, dowel-code, area-code, code-in-bending}
@@ -105,6 +105,18 @@ module _ {m : Member} (a : AllowedMember m) where
     pub permitted-load-exact : Permitted (formulaOf m class track) (permittedLoad m class track)
     unfolding permittedLoad
     permitted-load-exact = permitted-exact (formulaOf m class track) valid-formula
+
+pub depth-is-rot : DepthIsRot
+unfolding wears rotFields lostFields
+depth-is-rot m m' c deeper alike = record { greater = λ f h t. worse f h (eqb f S2) refl; alike = λ f h t. same f h t (eqb f S2) refl }
+  where
+    worse : (f : ℕ) → f < FIELDS → (b : Bool) → eqb f S2 ≡ b → field m f ≤ field m' f
+    worse f h true e = rw (eqb-true f S2 e) deeper
+    worse f h false e = omega (arith, alike f h (eqb-false f S2 e))
+
+    same : (f : ℕ) → f < FIELDS → wears (field m CODE) f ≡ false → (b : Bool) → eqb f S2 ≡ b → field m f ≡ field m' f
+    same f h t true e = absurd (mathlib.Core.Bool.false≢true (sym (rw (c, eqb-true f S2 e) at t)))
+    same f h t false e = alike f h (eqb-false f S2 e)
 
 module _ {m m' : Member} (a : AllowedMember m) (a' : AllowedMember m') (w : Worn m m') where
   -- a field that never wears, whatever the code

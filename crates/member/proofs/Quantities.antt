@@ -1,26 +1,24 @@
 -- The quantities of an allowed member's formula keep to the ranges that the formulas ask for, and the formula's divisors are
 -- above 0.
 -- Assumes nothing.
-use Prim.Native.Nat.{ℕ, _-_, _*_, _≤_, _<_}
-use mathlib.Core.Path.{_≡_, refl, subst, sym}
+use Prim.Native.Nat.{ℕ, _-_, _≤_}
+use mathlib.Core.Path.{_≡_, refl}
 use mathlib.Core.Bool.{Bool, true, false}
-use mathlib.Core.Logic.{_⊎_, inl, inr, ⊎-elim}
 use native.Mathlib.Decide.{decLe}
 use native.Mathlib.Omega.{arith}
 use lib.Dec.{eqb}
-use borrow.Author.Tests.{eq-eqb, ne-eqb}
 use Rattle.section.specs.Choose.{choose}
-use Rattle.section.specs.Fraction.{Fraction, Sound, over, whole, tenths, hundredths}
+use Rattle.section.specs.Fraction.{Sound, whole}
 use Rattle.section.specs.Species.{bendingTable, shearTable, bendingTenths, shearTenths}
 use Rattle.section.proofs.Choices.{of-choose}
 use Rattle.section.proofs.Order.{·-sound, whole-sound, tenths-sound, hundredths-sound}
 use Rattle.section.proofs.Sections.{sawn-modulus-sound}
 use Rattle.section.proofs.Terms.{dowel-capacity-sound}
 use Rattle.section.proofs.Table.{at-most}
-use Rattle.member.specs.Fields.{KIND, SPECIES, SPAN, SPACING, DISTANCE, HEIGHT, DEAD-LOAD, CODE, S1, MU-A, MU-B, field}
+use Rattle.member.specs.Fields.{KIND, SPECIES, SPAN, SPACING, DISTANCE, HEIGHT, DEAD-LOAD, CODE, MU-A, MU-B, field}
 use Rattle.member.specs.Format.{AllowedMember, used, unusedByKind, unusedByCode, ranges, rangeOf, suits, bending}
-use Rattle.member.specs.Formula.{Positive, Valid, Formula, dowelled, keyed, plates}
-use Rattle.member.specs.PermittedLoad.{loadFactor, loadFactorTenths, distribution, sectionModulus, netArea, capacity, jointFront, stringerOf, crossBeamOf, chordOf, jointOf, formulaOf}
+use Rattle.member.specs.Formula.{Positive, Valid, dowelled, keyed, plates}
+use Rattle.member.specs.PermittedLoad.{loadFactor, loadFactorTenths, distribution, sectionModulus, capacity, jointFront, stringerOf, crossBeamOf, chordOf, jointOf}
 use Rattle.member.specs.Sizes.{Sizes, Spaced, Inside, Ratio}
 use Rattle.member.specs.declared.record.Member.{Member}
 use Rattle.member.proofs.Allowed.{everyCode, in-range}

@@ -3,7 +3,7 @@
 use Prim.Native.Nat.{ℕ, _-_, _≤_, _<_}
 use mathlib.Core.Path.{_≡_}
 use mathlib.Core.Bool.{Bool, true, false, not, _&&_, _||_}
-use mathlib.Core.List.{List, [], _∷_, _++_}
+use mathlib.Core.List.{List, [], _∷_}
 use mathlib.Core.Logic.{_↔_}
 use lib.ListN.{length, getD}
 use lib.Dec.{eqb, leb}
@@ -26,7 +26,8 @@ a ‥ b = record { low = a; high = b }
 abbrev pub In : Range → ℕ → Type 0
 In r n = (r .low ≤ n) × (n ≤ r .high)
 
--- "Section code and its fields s1 to s6", each with its range. Code 5: "s1 diameter, s2 depth 0..60, s3 tiers 1..3", by the rows of appendix 3
+-- "Section code and its fields s1 to s6", each with its range. Code 5: "s1 diameter, s2 depth 0..60, s3 tiers 1..3"; its diameters are those
+-- of `RangeOfRows`
 unfoldable pub sectionRanges : ℕ → List Range
 sectionRanges code =
     choose (eqb code 1) (13 ‥ 39 ∷ 0 ‥ 60 ∷ 1 ‥ 3 ∷ [])

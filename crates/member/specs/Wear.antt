@@ -1,7 +1,7 @@
 -- Two records of one member, the second with as great or greater rot, lost area and dead load. Document 01, 'Judgement': "Rot is s2
 -- of code 1, s3 and s4 of code 2, s5 of code 3; lost area is s6 of code 2, s2 of code 4; dead load is q. These are compared field by
--- field in each shared member". "All else is every other number in a shared member's record". Document 02, request 1/13: "Depth is rot
--- wherever rot is spoken of", s2 of code 5.
+-- field in each shared member". "All else is every other number in a shared member's record". By document 02, request 1/13, the depth,
+-- s2 of code 5, is rot too.
 use Prim.Native.Nat.{ℕ, _≤_, _<_}
 use mathlib.Core.Path.{_≡_}
 use mathlib.Core.Bool.{Bool, true, false, _||_}
@@ -30,3 +30,7 @@ wears code f = holds f (rotFields code) || holds f (lostFields code) || eqb f DE
 pub record Worn (m m' : Member) : Type 0 where
   pub greater : (f : ℕ) → f < FIELDS → wears (field m CODE) f ≡ true → field m f ≤ field m' f
   pub alike : (f : ℕ) → f < FIELDS → wears (field m CODE) f ≡ false → field m f ≡ field m' f
+
+-- "Depth is rot wherever rot is spoken of": a record with a deeper crescent, all else alike, is a worn one
+abbrev pub DepthIsRot : Type 0
+DepthIsRot = (m m' : Member) → field m CODE ≡ 5 → field m S2 ≤ field m' S2 → ((f : ℕ) → f < FIELDS → ¬ (f ≡ S2) → field m f ≡ field m' f) → Worn m m'

@@ -1,7 +1,7 @@
 // The permitted load by each formula, on whole numbers with the constants multiplied out and one rounding at the end. Factors
 // are in tenths, section moduli in thirtieths of a cm³, a dowel's capacity in hundredths of a kgf.
 ghost use mathlib.Core.Path.{_≡_};
-ghost use Prim.Native.Nat.{_+_, _-_, _*_, _/_, _≤_, _<_, min};
+ghost use Prim.Native.Nat.{_-_, _*_, _/_, _≤_, _<_, min};
 ghost use Rattle.section.specs.Fraction.{over, whole, tenths, hundredths, _≐_};
 ghost use Rattle.member.specs.Formula.{stringer, crossBeam, chord, joint, dowelled, keyed, plates, permitted};
 ghost use Rattle.member.specs.PermittedLoad.{distribution};

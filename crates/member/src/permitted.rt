@@ -1,6 +1,6 @@
 // The permitted load of a member, from its record, the vehicle's class and its track.
 ghost use mathlib.Core.Path.{_≡_};
-ghost use Prim.Native.Nat.{ℕ, _*_, _≤_, _<_};
+ghost use Prim.Native.Nat.{ℕ, _*_, _≤_};
 ghost use Rattle.section.specs.Fraction.{over, _≐_};
 ghost use Rattle.section.specs.Species.{bendingTenths, shearTenths};
 ghost use Rattle.member.specs.Fields.{KIND, SPECIES, CODE, MU-B, field};

@@ -1,7 +1,7 @@
 -- The order of fractions, and how sums, differences, products, quotients and the lesser of two keep it. Each is its
 -- premises multiplied by the other divisors and sorted into monomials.
 -- Assumes nothing.
-use Prim.Native.Nat.{ℕ, _+_, _-_, _*_, _≤_, _<_, min}
+use Prim.Native.Nat.{ℕ, _-_, _*_, _≤_, _<_, min}
 use mathlib.Core.Path.{_≡_, refl, ap}
 use mathlib.Core.Bool.{Bool, true, false}
 use native.Mathlib.Nat.{mul-le-mul, mul-le-mul-right, mul-pos, le-of-mul-le-mul-right, le-refl, le-antisymm, le-of-lt, min-eq-left, min-eq-right, mul-sub, mul-comm}
@@ -114,9 +114,9 @@ unfolding tenths
 tenths-mono h = omega arith
 
 -- a fraction in a smaller unit
-pub scaled : (k n d : ℕ) {a : Fraction} → over n d ≐ a → over (k * n) (k * d) ≐ a
+pub in-smaller-unit : (k n d : ℕ) {a : Fraction} → over n d ≐ a → over (k * n) (k * d) ≐ a
 unfolding over
-scaled k n d e = record { out = omega (arith, ap (λ (z : ℕ). k * z) (e .out)) }
+in-smaller-unit k n d e = record { out = omega (arith, ap (λ (z : ℕ). k * z) (e .out)) }
 
 pub square-mono : {a b : Fraction} → a ⊑ b → square a ⊑ square b
 unfolding square

@@ -3,14 +3,14 @@
 use Rattle.section.specs.Fraction.{Sound, whole, square, _⊑_}
 use Rattle.section.specs.Sawn.{sawnModulus, sawnArea, areaLeft}
 use Rattle.section.proofs.Order.{⊑-refl, ·-mono, ÷-mono, ·-sound, ÷-sound, whole-sound, square-sound, whole-mono, square-mono}
-use Prim.Native.Nat.{ℕ, suc, _+_, _-_, _*_, _≤_, _<_}
+use Prim.Native.Nat.{ℕ, suc, _-_, _*_, _≤_}
 use mathlib.Core.Path.{_≡_, refl}
 use mathlib.Core.Bool.{Bool, true, false}
-use native.Mathlib.Nat.{mul-le-mul, mul-le-mul-left, mul-le-mul-right, le-trans}
+use native.Mathlib.Nat.{mul-le-mul, mul-le-mul-left}
 use native.Mathlib.Omega.{arith}
 use lib.Dec.{leb}
 use lib.ListN.{getD}
-use borrow.Author.Tests.{le-leb, leb-true, leb-false}
+use borrow.Author.Tests.{le-leb, leb-true}
 use Rattle.section.specs.Choose.{choose}
 use Rattle.section.specs.Log.{netDiameter, logTable, logModulus, tieredModulus}
 use Rattle.section.proofs.Table.{never-falls}

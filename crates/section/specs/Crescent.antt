@@ -7,16 +7,16 @@ use lib.ListN.{getD}
 use Rattle.section.specs.Choose.{choose}
 use Rattle.section.specs.Log.{logModulus}
 
-infix 68 _∥_
 -- a row of the printed table: the diameter, and W by depth from 1 to the last that is printed
 pub record Row : Type 0 where
   pub diameter : ℕ
   pub printed : List ℕ
 
+infix 68 _∥_
 abbrev pub _∥_ : ℕ → List ℕ → Row
 diameter ∥ printed = record { diameter = diameter; printed = printed }
 
--- a row that is printed in whole cm³, in tenths
+-- a row that is printed in whole cm³, turned into tenths
 abbrev pub inWhole : List ℕ → List ℕ
 inWhole [] = []
 inWhole (w ∷ ws) = 10 * w ∷ inWhole ws

@@ -407,7 +407,7 @@ const MODULUS: [u64; 391] = [
 pub fn crescent_modulus(diameter: Cm, depth: Cm) -> u64
     requires { ⌜ (14 ≤ diameter .0) × (diameter .0 ≤ 36) ⌝ }
     ensures is { λ r. ⌜ r ≡ crescentModulus (diameter .0) (depth .0) ⌝ }
-    ensures cap { λ r. ⌜ r ≤ 58240 ⌝ }
+    ensures cap { λ r. ⌜ r ≤ 45800 ⌝ }
 {
     if depth.0 == 0 {
         return 10 * log_modulus(diameter);
@@ -432,7 +432,7 @@ pub struct Crescent {
 pub fn tiered_crescent(s: Crescent) -> u64
     requires { ⌜ (14 ≤ s .diameter .0) × (s .diameter .0 ≤ 36) × (1 ≤ s .tiers) × (s .tiers ≤ 3) ⌝ }
     ensures is { λ r. ⌜ r ≡ tieredCrescent (s .diameter .0) (s .depth .0) (s .tiers) ⌝ }
-    ensures cap { λ r. ⌜ r ≤ 174720 ⌝ }
+    ensures cap { λ r. ⌜ r ≤ 137400 ⌝ }
 {
     let diameter = s.diameter;
     let depth = s.depth.0;

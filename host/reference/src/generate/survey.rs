@@ -27,9 +27,10 @@ pub(super) fn lowers(words: &Words, word: usize) -> bool {
 /// The depth of a crescent: often where its row begins or ends, where all rows end, or beyond.
 fn depth(random: &mut Random, diameter: u16) -> u16 {
     let last = last_depth(diameter);
-    match random.once_in(2) {
-        true => *random.pick(&[0, 1, last, last + 1, 17, 18, 60]),
-        false => random.between(0, last),
+    if random.once_in(2) {
+        *random.pick(&[0, 1, last, last + 1, 17, 18, 60])
+    } else {
+        random.between(0, last)
     }
 }
 

@@ -2,7 +2,6 @@
 -- Assumes nothing.
 use native.Mathlib.Omega.{arith}
 use mathlib.Core.Path.{refl}
-use Rattle.section.specs.Fraction.{over}
 use Rattle.section.proofs.Order.{over-sound, tenths-sound, hundredths-sound}
 use Rattle.member.specs.Format.{used, unusedByKind, unusedByCode, suits, bending}
 use Rattle.member.proofs.EachKind.{cross-beam-valid, cross-beam-same, whole-positive}

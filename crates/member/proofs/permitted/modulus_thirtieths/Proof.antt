@@ -1,13 +1,13 @@
 -- `member::permitted::modulus_thirtieths` meets its contract: the code picks the section, whose sizes its ranges bound.
 -- Assumes nothing.
-use Prim.Native.Nat.{_*_, _≤_}
+use Prim.Native.Nat.{_≤_}
 use mathlib.Core.Path.{_≡_, sym, _∙_}
 use native.Mathlib.Omega.{arith}
 use borrow.Author.Tests.{eq-eqb, ne-eqb}
 use Rattle.section.specs.Crescent.{tieredCrescent}
 use Rattle.section.specs.Fraction.{over, whole, tenths}
 use Rattle.section.specs.Log.{tieredModulus}
-use Rattle.section.proofs.Order.{scaled}
+use Rattle.section.proofs.Order.{in-smaller-unit}
 use Rattle.section.proofs.Sections.{tiered-modulus-cap}
 use Rattle.member.specs.Fields.{CODE, S1, S2, S3, field}
 use Rattle.member.specs.PermittedLoad.{sectionModulus}
@@ -98,7 +98,7 @@ returns-3 c =
     let s = c .before .sawn .ensures in
     let e = two (c .before .before) in (
       rw (ne-eqb (field m CODE) 1 (omega (arith, e)), ne-eqb (field m CODE) 5 (omega (arith, e)))
-          (scaled 5 _ 6 (rw (s .0, s .1, s .2, s .3, s .4) at (c .sawn-modulus-sixths .ensures .0))),
+          (in-smaller-unit 5 _ 6 (rw (s .0, s .1, s .2, s .3, s .4) at (c .sawn-modulus-sixths .ensures .0))),
       omega (arith, c .sawn-modulus-sixths .ensures .1),
     )
 

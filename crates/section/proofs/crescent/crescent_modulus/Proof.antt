@@ -2,12 +2,12 @@
 -- table, which passes the test that it agrees with the definition.
 -- Assumes nothing.
 use Prim.Native.Nat.{_≤_, _<_}
-use mathlib.Core.Path.{_≡_, refl}
+use mathlib.Core.Path.{_≡_}
 use native.Mathlib.Omega.{arith}
 use Rattle.section.specs.Crescent.{crescentModulus, crescentRow, crescentTable}
 use Rattle.section.specs.Log.{logModulus, logTable}
 use Rattle.section.proofs.Crescents.{sound-crescent, past-the-page, crescent-entry}
-use Rattle.section.proofs.Sections.{log-modulus-cap}
+use Rattle.section.proofs.Sections.{log-modulus-mono}
 use Rattle.section.proofs.Table.{at-most}
 use borrow.Author.Needs.{needs}
 use Rattle.section.proofs.crescent.crescent_modulus.Statement.{statement}
@@ -16,10 +16,11 @@ use Rattle.section.proofs.crescent.crescent_modulus.Tie as tie
 log-modulus-requires : tie.Need-log-modulus-requires
 log-modulus-requires c κs = search needs
 
-sound : (c : tie.After-log-modulus) → c .log-modulus .result ≤ 5824
+sound : (c : tie.After-log-modulus) → c .log-modulus .result ≤ 4580
+unfolding logModulus logTable
 sound c =
     let a = c .before .before .before .args in
-    omega (arith, c .log-modulus .ensures, log-modulus-cap (a .diameter .0) (omega arith))
+    rw (c .log-modulus .ensures) (log-modulus-mono (a .diameter .0) 36 (omega arith) (omega arith))
 
 mul-result : tie.Need-mul-result
 mul-result c = omega (arith, sound c)

@@ -19,17 +19,17 @@ sub-result : tie.Need-sub-result
 sub-result c = search needs
 
 mul-result : tie.Need-mul-result
-mul-result c = product-fits 3 58240 tt (omega arith) (c .crescent-modulus2 .ensures .1)
+mul-result c = product-fits 3 45800 tt (omega arith) (c .crescent-modulus2 .ensures .1)
 
 add-result : tie.Need-add-result
-add-result c = omega (arith, c .before .crescent-modulus .ensures .1, product-cap 3 58240 {x = c .before .before .before .args .s .tiers - 1} (omega arith) (c .crescent-modulus2 .ensures .1))
+add-result c = omega (arith, c .before .crescent-modulus .ensures .1, product-cap 3 45800 {x = c .before .before .before .args .s .tiers - 1} (omega arith) (c .crescent-modulus2 .ensures .1))
 
 returns : tie.Need-returns
 unfolding tieredCrescent
 returns c =
     let a = c .before .before .before .args .s in (
       cc (c .before .crescent-modulus .ensures .0, c .crescent-modulus2 .ensures .0, sound-crescent (a .diameter .0)),
-      omega (arith, c .before .crescent-modulus .ensures .1, product-cap 2 58240 {x = a .tiers - 1} (omega arith) (c .crescent-modulus2 .ensures .1)),
+      omega (arith, c .before .crescent-modulus .ensures .1, product-cap 2 45800 {x = a .tiers - 1} (omega arith) (c .crescent-modulus2 .ensures .1)),
     )
 
 pub tiered-crescent-spec : {M : Type 1} → statement M
