@@ -1,5 +1,6 @@
 -- `unused_by_code` meets its contract: the tests that led to each answer say which of the document's lists it is.
 use mathlib.Core.Bool.{or-assoc, or-false}
+use mathlib.Core.Path.{_≡_}
 use borrow.Author.Tests.{eq-eqb, ne-eqb, le-leb, lt-leb}
 use Rattle.member.specs.Format.{unusedByCode, bending}
 use Rattle.files.proofs.ranges.unused_by_code.Statement.{statement}
@@ -23,7 +24,10 @@ returns-4 c = rw (ne-eqb _ _ (c .before .before .if1 .left), ne-eqb _ _ (c .befo
 
 returns-5 : tie.Need-returns-5
 unfolding unusedByCode bending
-returns-5 c = rw (ne-eqb _ _ (c .before .before .before .if1 .left), ne-eqb _ _ (c .before .before .if2 .left), ne-eqb _ _ (c .before .if4 .left), eq-eqb _ _ (c .if5 .taken)) (simp (or-assoc, or-false))
+returns-5 c =
+    let crescent : c .before .before .before .before .args .code ≡ 5 = c .if5 .taken in
+    rw (ne-eqb _ _ (c .before .before .before .if1 .left), ne-eqb _ _ (c .before .before .if2 .left), ne-eqb _ _ (c .before .if4 .left), eq-eqb _ _ crescent)
+    (simp (or-assoc, or-false))
 
 returns-6 : tie.Need-returns-6
 unfolding unusedByCode bending
