@@ -8,8 +8,10 @@ use native.Mathlib.Nat.{eq-or-lt-of-le, mul-comm, zero-mul, zero-sub, sub-eq-zer
 use native.Mathlib.Decide.{decLe}
 use native.Mathlib.Omega.{arith}
 use borrow.Author.Tests.{le-leb, lt-leb}
-use Rattle.influence.specs.Scaled.{top, scaledHeight, scaledSum, apexTop}
-use Rattle.influence.proofs.Folds.{total-le, total-plus, total-times, top-at}
+use Rattle.section.specs.Greatest.{top}
+use Rattle.influence.specs.Scaled.{scaledHeight, scaledSum, apexTop}
+use Rattle.influence.proofs.Folds.{total-le, total-plus, total-times}
+use Rattle.section.proofs.Greatest.{top-at}
 
 -- A function that is at most m at 0 and from some place on, and convex wherever it is above m, is at most m everywhere.
 module _ (g : ℕ → ℕ) (m : ℕ) (convex : (v : ℕ) → m < g (suc v) → 2 * g (suc v) ≤ g v + g (suc (suc v))) where

@@ -13,9 +13,11 @@ use Rattle.section.proofs.Rounding.{rounded-up, ceiling-least}
 use Rattle.section.specs.Units.{weight, distance}
 use Rattle.influence.specs.Influence.{Triangle, total, perMetre, behind, vehicleLoad}
 use Rattle.influence.specs.Scaled.{scaledHeight, scaledSum, apexTop, scaledGreatest}
-use Rattle.influence.proofs.Folds.{total-same, total-split, of-top}
+use Rattle.influence.proofs.Folds.{total-same, total-split}
+use Rattle.section.proofs.Greatest.{of-top}
+use Rattle.section.proofs.Order.{over-mono}
 use Rattle.influence.proofs.Apex.{apex-top}
-use Rattle.influence.proofs.Scaled.{over-mono, perMetre-mono}
+use Rattle.influence.proofs.Scaled.{perMetre-mono}
 use Rattle.influence.proofs.Load.{load-sound, load-computed, behind-alike}
 
 -- The axles of ws and ds are the first n of ws₁ and ds₁ and after them the first m of ws₂ and ds₂, at any distance.

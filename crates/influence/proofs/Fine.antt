@@ -15,7 +15,8 @@ use Rattle.section.proofs.Order.{⊑-trans, ≐-⊑}
 use Rattle.section.specs.Units.{weight}
 use Rattle.influence.specs.Influence.{Triangle, axleSum, perMetre, greatest, behind, vehicleLoad}
 use Rattle.influence.specs.Scaled.{scaledHeight, scaledSum, apexTop, scaledGreatest}
-use Rattle.influence.proofs.Folds.{total-same, total-times, top-at}
+use Rattle.influence.proofs.Folds.{total-same, total-times}
+use Rattle.section.proofs.Greatest.{top-at}
 use Rattle.influence.proofs.Apex.{rising-side, falling-side, apex-enough}
 use Rattle.influence.proofs.Scaled.{mirrored, same-divisor, axleSum-over, perMetre-mono, divisor-above-0}
 use Rattle.section.proofs.Order.{over-sound}

@@ -10,13 +10,14 @@ use mathlib.Core.List.{List}
 use native.Mathlib.Omega.{arith}
 use Rattle.section.specs.declared.Cm.{Cm}
 use Rattle.section.specs.Fraction.{Fraction, Sound, over, whole, _·_, _÷_, _⊑_, _≐_}
-use Rattle.section.proofs.Order.{⊑-trans, ≐-⊑, ≐-⊒, of-greater, greater-left, greater-right}
+use Rattle.section.proofs.Order.{⊑-trans, ≐-⊑, ≐-⊒, over-mono, of-greater, greater-left, greater-right}
 use Rattle.section.specs.Units.{distance}
 use Rattle.influence.specs.Influence.{Triangle, perMetre, gives, greatestOneWay, greatest, behind}
 use Rattle.influence.specs.Scaled.{scaledSum, apexTop, scaledGreatest}
-use Rattle.influence.proofs.Folds.{total-more, of-max, of-top, of-greatest, greatest-at}
+use Rattle.influence.proofs.Folds.{total-more}
+use Rattle.section.proofs.Greatest.{of-max, of-top, of-greatest, greatest-at}
 use Rattle.influence.proofs.Apex.{sum-start, sum-past, apex-top}
-use Rattle.influence.proofs.Scaled.{mirrored, same-divisor, over-mono, axleSum-over, perMetre-mono, perMetre-sound, gives-sound, divisor-above-0}
+use Rattle.influence.proofs.Scaled.{mirrored, same-divisor, axleSum-over, perMetre-mono, perMetre-sound, gives-sound, divisor-above-0}
 use Rattle.section.proofs.Order.{over-sound}
 
 -- no axle stands further behind than the last

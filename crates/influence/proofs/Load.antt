@@ -9,14 +9,15 @@ use native.Mathlib.Omega.{arith}
 use Rattle.section.specs.declared.Cm.{Cm}
 use Rattle.section.specs.declared.Kgf.{Kgf}
 use Rattle.section.specs.Fraction.{Fraction, Sound, over, whole, ceiling, _⊑_, RoundedUp}
-use Rattle.section.proofs.Order.{⊑-trans}
+use Rattle.section.proofs.Order.{⊑-trans, over-mono}
 use Rattle.section.proofs.Rounding.{rounded-up, ceiling-mono, ceiling-same}
 use Rattle.section.specs.Units.{weight, distance}
 use Rattle.influence.specs.Influence.{Triangle, perMetre, gives, greatest, behind, vehicleLoad}
 use Rattle.influence.specs.Scaled.{scaledHeight, scaledSum, apexTop, scaledGreatest}
-use Rattle.influence.proofs.Folds.{total-le, total-same, total-more, of-top}
+use Rattle.influence.proofs.Folds.{total-le, total-same, total-more}
+use Rattle.section.proofs.Greatest.{of-top}
 use Rattle.influence.proofs.Apex.{apex-top}
-use Rattle.influence.proofs.Scaled.{over-mono, perMetre-mono, perMetre-sound, divisor-above-0}
+use Rattle.influence.proofs.Scaled.{perMetre-mono, perMetre-sound, divisor-above-0}
 use Rattle.section.proofs.Order.{over-sound}
 use Rattle.influence.proofs.Greatest.{behind-last, greatest-sound, greatest-computed, greatest-bounds}
 

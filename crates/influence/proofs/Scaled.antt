@@ -4,12 +4,12 @@
 use Prim.Native.Nat.{ℕ, _-_, _*_, _≤_, _<_}
 use mathlib.Core.Path.{_≡_, ap}
 use mathlib.Core.Bool.{Bool, true, false}
-use native.Mathlib.Nat.{mul-comm, mul-pos, mul-le-mul-right}
+use native.Mathlib.Nat.{mul-comm, mul-pos}
 use native.Mathlib.Omega.{arith}
 use lib.Dec.{leb}
 use Rattle.section.specs.Choose.{choose}
 use Rattle.section.specs.Fraction.{Fraction, Sound, over, whole, _·_, _⊑_, _≐_}
-use Rattle.section.proofs.Order.{⊑-refl, ·-mono, ÷-mono, ·-sound, ÷-sound}
+use Rattle.section.proofs.Order.{⊑-refl, ·-mono, ÷-mono, ·-sound, ÷-sound, times-over}
 use Rattle.influence.specs.Influence.{Triangle, height, axleSum, perMetre, gives}
 use Rattle.influence.specs.Scaled.{scaledHeight, scaledSum}
 use Rattle.influence.proofs.Folds.{sum-over, sum-sound}
@@ -27,10 +27,6 @@ same-divisor {U} {P} t =
     let back : U - (U - P) ≡ P = omega arith in
     rw back (mul-comm P (U - P))
 
-pub over-mono : {x y : ℕ} (D : ℕ) → x ≤ y → over x D ⊑ over y D
-unfolding over
-over-mono D h = record { out = mul-le-mul-right D h }
-
 pub height-over : (U P s : ℕ) → height U P s ≐ over (scaledHeight U P s) (P * (U - P))
 unfolding height scaledHeight over
 height-over U P s = go (leb s P)
@@ -38,10 +34,6 @@ height-over U P s = go (leb s P)
     go : (t : Bool) → choose t (over s P) (over (U - s) (U - P)) ≐ over (choose t (s * (U - P)) ((U - s) * P)) (P * (U - P))
     go true = record { out = omega arith }
     go false = record { out = omega arith }
-
-times-over : (k x D : ℕ) {a : Fraction} → a ≐ over x D → whole k · a ≐ over (k * x) D
-unfolding over whole _·_
-times-over k x D {a} p = record { out = omega (arith, ap (λ t. k * t) (p .out)) }
 
 pub axleSum-over : (U P : ℕ) (w b : ℕ → ℕ) (n u : ℕ) → axleSum U P w b n u ≐ over (scaledSum U P w b n u) (P * (U - P))
 unfolding axleSum scaledSum

@@ -15,9 +15,11 @@ use Rattle.section.specs.declared.Kgf.{Kgf}
 use Rattle.section.specs.Fraction.{over, whole, _·_, _÷_}
 use Rattle.section.specs.Units.{weight, distance}
 use Rattle.influence.specs.Influence.{total, perMetre, behind}
-use Rattle.influence.specs.Scaled.{top, scaledHeight, scaledSum, apexTop}
+use Rattle.section.specs.Greatest.{top}
+use Rattle.influence.specs.Scaled.{scaledHeight, scaledSum, apexTop}
 use Rattle.influence.specs.Bounds.{Bounded}
-use Rattle.influence.proofs.Folds.{total-cap, total-more, total-rest, of-top}
+use Rattle.influence.proofs.Folds.{total-cap, total-more, total-rest}
+use Rattle.section.proofs.Greatest.{of-top}
 use Rattle.influence.proofs.Apex.{rising-side, falling-side}
 use Rattle.influence.proofs.Scaled.{mirrored}
 

@@ -9,6 +9,7 @@ use Rattle.section.specs.Units.{weight, distance}
 use Rattle.section.specs.declared.Cm.{Cm}
 use Rattle.section.specs.declared.Kgf.{Kgf}
 use Rattle.section.specs.Fraction.{Fraction, whole, over, _·_, _÷_, _⊕_, greater, ceiling}
+use Rattle.section.specs.Greatest.{greatestUpTo}
 
 -- f 0 + f 1 + .. + f (n - 1), of fractions and of whole numbers
 unfoldable pub sum : (ℕ → Fraction) → ℕ → Fraction
@@ -18,11 +19,6 @@ sum f (suc n) = sum f n ⊕ f n
 unfoldable pub total : (ℕ → ℕ) → ℕ → ℕ
 total f zero = 0
 total f (suc n) = total f n + f n
-
--- the greatest of f 0, f 1, .., f e
-unfoldable pub greatestUpTo : (ℕ → Fraction) → ℕ → Fraction
-greatestUpTo f zero = f zero
-greatestUpTo f (suc e) = greater (greatestUpTo f e) (f (suc e))
 
 -- the apex stands between the ends of the base
 pub record Triangle (U P : ℕ) : Type 0 where

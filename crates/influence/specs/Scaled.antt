@@ -1,15 +1,11 @@
 -- What the code computes: whole numbers, every height multiplied by P × (U - P). Nothing here has to be believed:
 -- proofs/Greatest.antt ties it to Influence.
-use Prim.Native.Nat.{ℕ, zero, suc, _+_, _-_, _*_, max}
+use Prim.Native.Nat.{ℕ, _+_, _-_, _*_, max}
 use mathlib.Core.Bool.{Bool, true, false}
 use lib.Dec.{leb}
 use Rattle.section.specs.Choose.{choose}
+use Rattle.section.specs.Greatest.{top}
 use Rattle.influence.specs.Influence.{total}
-
--- the greatest of f 0, .., f (n - 1), 0 where n is 0
-unfoldable pub top : (ℕ → ℕ) → ℕ → ℕ
-top f zero = 0
-top f (suc n) = max (top f n) (f n)
 
 unfoldable pub scaledHeight : (U P s : ℕ) → ℕ
 scaledHeight U P s = choose (leb s P) (s * (U - P)) ((U - s) * P)

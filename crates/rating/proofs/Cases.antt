@@ -4,9 +4,10 @@ use mathlib.Core.Path.{_≡_, refl}
 use mathlib.Core.Bool.{true}
 use Rattle.section.specs.Fraction.{over, whole, tenths, hundredths, square, lesser, greater, floor, ceiling, _·_, _÷_, _⊕_, _⊖_}
 use Rattle.section.specs.Dowel.{leastTerm, termOf, dowelCapacity}
+use Rattle.section.specs.Greatest.{greatestUpTo}
 use Rattle.section.specs.Log.{netDiameter, logTable, logModulus, tieredModulus}
 use Rattle.section.specs.Sawn.{sawnModulus, sawnArea, areaLeft}
-use Rattle.influence.specs.Influence.{sum, total, greatestUpTo, height, axleSum, perMetre, gives, greatestOneWay, greatest, behind, vehicleLoad}
+use Rattle.influence.specs.Influence.{sum, total, height, axleSum, perMetre, gives, greatestOneWay, greatest, behind, vehicleLoad}
 use Rattle.member.specs.Formula.{stringer, crossBeam, chord, joint, dowelled, keyed, plates, permitted}
 use Rattle.member.specs.PermittedLoad.{distribution, sectionModulus, netArea, capacity, jointFront, formulaOf, permittedLoad}
 use Rattle.rating.specs.VehicleLoad.{lineOf, vehicleLoadOn}

@@ -1,6 +1,7 @@
 pub mod Terms
 pub mod Choices
 pub mod Crescents
+pub mod Greatest
 pub mod Order
 pub mod Products
 pub mod Quotient

@@ -1,8 +1,8 @@
 -- The order of fractions, and how sums, differences, products, quotients and the lesser of two keep it. Each is its
 -- premises multiplied by the other divisors and sorted into monomials.
 -- Assumes nothing.
-use Prim.Native.Nat.{ℕ, _-_, _*_, _≤_, _<_, min}
-use mathlib.Core.Path.{_≡_, refl, ap}
+use Prim.Native.Nat.{ℕ, _+_, _-_, _*_, _≤_, _<_, min}
+use mathlib.Core.Path.{_≡_, refl, sym, ap, ap₂}
 use mathlib.Core.Bool.{Bool, true, false}
 use native.Mathlib.Nat.{mul-le-mul, mul-le-mul-right, mul-pos, le-of-mul-le-mul-right, le-refl, le-antisymm, le-of-lt, min-eq-left, min-eq-right, mul-sub, mul-comm}
 use native.Mathlib.Omega.{arith}
@@ -31,6 +31,12 @@ pub ≐-⊒ : {a b : Fraction} → a ≐ b → b ⊑ a
 
 pub ⊑-antisymm : {a b : Fraction} → a ⊑ b → b ⊑ a → a ≐ b
 ⊑-antisymm p q = record { out = le-antisymm (p .out) (q .out) }
+
+pub ≐-refl : {a : Fraction} → a ≐ a
+≐-refl = record { out = refl }
+
+pub ≐-sym : {a b : Fraction} → a ≐ b → b ≐ a
+≐-sym e = record { out = sym (e .out) }
 
 pub ≐-trans : {a b c : Fraction} → Sound b → a ≐ b → b ≐ c → a ≐ c
 ≐-trans s p q = ⊑-antisymm (⊑-trans s (≐-⊑ p) (≐-⊑ q)) (⊑-trans s (≐-⊒ q) (≐-⊒ p))
@@ -109,6 +115,10 @@ pub whole-mono : {m n : ℕ} → m ≤ n → whole m ⊑ whole n
 unfolding whole
 whole-mono h = omega arith
 
+pub over-mono : {x y : ℕ} (D : ℕ) → x ≤ y → over x D ⊑ over y D
+unfolding over
+over-mono D h = record { out = mul-le-mul-right D h }
+
 pub tenths-mono : {m n : ℕ} → m ≤ n → tenths m ⊑ tenths n
 unfolding tenths
 tenths-mono h = omega arith
@@ -117,6 +127,31 @@ tenths-mono h = omega arith
 pub in-smaller-unit : (k n d : ℕ) {a : Fraction} → over n d ≐ a → over (k * n) (k * d) ≐ a
 unfolding over
 in-smaller-unit k n d e = record { out = omega (arith, ap (λ (z : ℕ). k * z) (e .out)) }
+
+-- equal fractions give equal products and quotients
+pub ·-same : {a a' b b' : Fraction} → a ≐ a' → b ≐ b' → a · b ≐ a' · b'
+·-same e f = ⊑-antisymm (·-mono (≐-⊑ e) (≐-⊑ f)) (·-mono (≐-⊒ e) (≐-⊒ f))
+
+pub ÷-same : {a a' b b' : Fraction} → a ≐ a' → b ≐ b' → a ÷ b ≐ a' ÷ b'
+unfolding _÷_
+÷-same e f = record { out = omega (arith, ap₂ (λ (x y : ℕ). x * y) (e .out) (sym (f .out))) }
+
+-- fractions over one divisor are summed and multiplied like whole numbers
+pub ⊕-over : {a b : Fraction} (x y D : ℕ) → a ≐ over x D → b ≐ over y D → a ⊕ b ≐ over (x + y) D
+unfolding over _⊕_
+⊕-over {a} {b} x y D p q = record { out = omega (arith, ap (λ t. t * b .den) (p .out), ap (λ t. t * a .den) (q .out)) }
+
+pub times-over : (k x D : ℕ) {a : Fraction} → a ≐ over x D → whole k · a ≐ over (k * x) D
+unfolding over whole _·_
+times-over k x D {a} p = record { out = omega (arith, ap (λ t. k * t) (p .out)) }
+
+pub ÷-over : (k x D : ℕ) {a : Fraction} → a ≐ over x D → a ÷ whole k ≐ over x (D * k)
+unfolding over whole _÷_
+÷-over k x D {a} p = record { out = omega (arith, ap (λ t. t * k) (p .out)) }
+
+pub over-times : (k x D : ℕ) {a : Fraction} → a ≐ over x D → a ≐ over (x * k) (D * k)
+unfolding over
+over-times k x D {a} p = record { out = omega (arith, ap (λ t. t * k) (p .out)) }
 
 pub square-mono : {a b : Fraction} → a ⊑ b → square a ⊑ square b
 unfolding square

@@ -17,3 +17,7 @@ second-part n k d s = mul-le-mul-right k (omega (arith, mod-lt n s))
 pub both-parts : (n k d : ℕ) → k ≤ d → n / d * k + n % d * k / d ≤ n
 both-parts n k d h =
     omega (arith, mul-le-mul-left (n / d) h, div-add-mod' n d, div-le-of-le-mul d {m = n % d * k} {n = n % d} (omega (arith, mul-le-mul-left (n % d) h)))
+
+-- where k is at most d the quotient is at most n
+pub quotient-cap : (n k d : ℕ) → k ≤ d → n * k / d ≤ n
+quotient-cap n k d h = div-le-of-le-mul d {m = n * k} {n = n} (omega (arith, mul-le-mul-left n h))

@@ -2,6 +2,7 @@ pub mod Choose
 pub mod Crescent
 pub mod Dowel
 pub mod Fraction
+pub mod Greatest
 pub mod Log
 pub mod Sawn
 pub mod Species

@@ -1,7 +1,7 @@
 // Whole numbers for the fractions of the formulas: a truncated difference, the lesser of two, and quotients that are
 // rounded once.
 ghost use mathlib.Core.Path.{_≡_};
-ghost use Prim.Native.Nat.{_+_, _-_, _*_, _/_, _^_, _<_, _≤_, min};
+ghost use Prim.Native.Nat.{_+_, _-_, _*_, _/_, _^_, _<_, _≤_, min, max};
 ghost use Rattle.section.specs.Fraction.{over, floor, ceiling, RoundedDown, RoundedUp};
 
 // a less b, and 0 where that would fall below 0.
@@ -15,6 +15,12 @@ pub fn lesser(a: u64, b: u64) -> u64
     ensures { λ r. ⌜ r ≡ min a b ⌝ }
 {
     if a <= b { a } else { b }
+}
+
+pub fn greater(a: u64, b: u64) -> u64
+    ensures { λ r. ⌜ r ≡ max a b ⌝ }
+{
+    if a < b { b } else { a }
 }
 
 // n over d, rounded down once.

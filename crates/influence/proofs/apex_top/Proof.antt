@@ -10,7 +10,8 @@ use borrow.Author.Needs.{needs}
 use Rattle.section.specs.Units.{weight}
 use Rattle.section.proofs.Products.{product-fits}
 use Rattle.influence.specs.Influence.{total, behind}
-use Rattle.influence.specs.Scaled.{top, scaledSum, apexTop}
+use Rattle.section.specs.Greatest.{top}
+use Rattle.influence.specs.Scaled.{scaledSum, apexTop}
 use Rattle.influence.proofs.Steps.{passed, passed-next, passed-cap, behind-passed, sum-next, sum-rest, height-cap, sum-cap, topOf, top-next}
 use Rattle.influence.proofs.apex_top.Statement.{statement}
 use Rattle.influence.proofs.apex_top.Tie as tie

@@ -1,0 +1,5 @@
+pub mod Inertia
+pub mod Stiffness
+pub mod Spread
+pub mod Beta
+pub mod Scaled
