@@ -4,7 +4,7 @@ use mathlib.Core.List.{[], _∷_}
 use lib.Dec.{leb}
 use lib.ListN.{getD}
 use Rattle.section.specs.Choose.{choose}
-use Rattle.section.specs.Fraction.{Fraction, Sound, whole, square, _·_, _÷_, _⊕_, _⊖_, _≐_}
+use Rattle.section.specs.Fraction.{Fraction, whole, square, _·_, _÷_, _⊕_, _⊖_}
 
 -- the shares of the loaded stringer and of those one, two and three spacings from it, on each side, over one divisor
 pub record Spread : Type 0 where
@@ -43,7 +43,3 @@ spreadOf k = choose (leb (1 * k .den) (k .num * 3)) (threeStringers k) (fiveStri
 -- the share of a stringer that stands this many spacings away: "Any stringer farther off has share 0."
 unfoldable pub share : Spread → (away : ℕ) → Fraction
 share s away = getD (s .own ∷ s .next ∷ s .second ∷ s .third ∷ []) away (whole 0) ÷ s .divisor
-
--- what is spread is the whole load: the shares, both sides counted, add to one
-abbrev pub Whole : Spread → Type 0
-Whole s = share s 0 ⊕ whole 2 · (share s 1 ⊕ share s 2 ⊕ share s 3) ≐ whole 1

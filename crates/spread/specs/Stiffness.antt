@@ -1,8 +1,8 @@
 -- The stiffness number of closely spaced stringers under their deck. Document 02, request 2/13.
-use Prim.Native.Nat.{ℕ, _+_, min}
+use Prim.Native.Nat.{ℕ, min}
 use lib.Dec.{eqb}
 use Rattle.section.specs.Choose.{choose}
-use Rattle.section.specs.Fraction.{Fraction, Sound, over, whole, floor, _·_, _÷_, _⊕_, _⊑_, _⊏_}
+use Rattle.section.specs.Fraction.{Fraction, over, whole, floor, _·_, _÷_, _⊕_, _⊑_, _⊏_}
 use Rattle.spread.specs.Inertia.{cube}
 
 -- "k = 8d³I / (l³J)"

@@ -1,0 +1,4 @@
+pub mod Carried
+pub mod Moments
+pub mod Spreads
+pub mod StiffnessNumber

@@ -1,0 +1,30 @@
+-- What the code computes: whole numbers, the shares over one divisor and what a stringer carries over the divisor times the spacing. Nothing
+-- here has to be believed: proofs/ ties it to Spread and Beta.
+use Prim.Native.Nat.{ℕ, _+_, _-_, _*_, _≤_, _<_}
+use mathlib.Core.List.{[], _∷_}
+use lib.ListN.{getD}
+use Rattle.section.specs.Fraction.{over, _≐_}
+use Rattle.spread.specs.Spread.{Spread, share}
+use Rattle.spread.specs.declared.shares.Shares.{Shares}
+
+-- the share of a stringer that stands this many spacings away, times the divisor
+abbrev pub part : Shares → (away : ℕ) → ℕ
+part s away = getD (s .own ∷ s .next ∷ s .second ∷ s .third ∷ []) away 0
+
+-- the whole numbers are those of the spread, at every distance
+abbrev pub SharesOf : Spread → Shares → Type 0
+SharesOf spread s = (away : ℕ) → share spread away ≐ over (part s away) (s .divisor)
+
+-- no share is above the whole, and 64 bits hold what is computed from them
+pub record Bounded (s : Shares) : Type 0 where
+  pub above-0 : 0 < s .divisor
+  pub high : s .divisor ≤ 2000000000
+  pub parts : (away : ℕ) → part s away ≤ s .divisor
+
+-- how far two stringers stand apart
+abbrev pub apart : (i k : ℕ) → ℕ
+apart i k = (i - k) + (k - i)
+
+-- what stringer i carries, where the first wheel stands over stringer 3
+unfoldable pub scaledCarried : Shares → (d m r i : ℕ) → ℕ
+scaledCarried s d m r i = part s (apart i 3) * d + ((d - r) * part s (apart i (m + 3)) + r * part s (apart i (m + 4)))
