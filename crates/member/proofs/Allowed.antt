@@ -6,14 +6,13 @@ use mathlib.Core.Path.{_≡_, refl, subst, subst₂}
 use mathlib.Core.Bool.{Bool, true, false, _||_}
 use mathlib.Core.List.{[], _∷_}
 use mathlib.Core.Logic.{⊎-elim, _⊎_, inl, inr}
-use native.Mathlib.Decide.{decLe}
 use native.Mathlib.Omega.{arith}
-use lib.Dec.{eqb}
-use borrow.Author.Tests.{eqb-true, le-leb, lt-leb, ne-eqb}
+use lib.Dec.{eqb, leb}
+use borrow.Author.Tests.{eqb-true, leb-true, le-leb, lt-leb, ne-eqb}
 use Rattle.section.specs.Choose.{choose, all}
 use Rattle.section.proofs.Crescents.{row-range}
 use Rattle.section.proofs.Table.{all-at}
-use Rattle.member.specs.Fields.{KIND, SPAN, CODE, S1, S2, S3, S4, S5, S6, FIELDS, LAST-CODE, field}
+use Rattle.member.specs.Fields.{KIND, SPAN, CODE, S1, S2, S3, S4, S5, S6, FIELDS, LAST-KIND, LAST-CODE, field}
 use Rattle.member.specs.Format.{AllowedMember, Range, _‥_, In, used, unusedByKind, unusedByCode, ranges, rangeOf, sectionRange, sectionRanges, RangeOfRows, suits, bending}
 use Rattle.member.specs.declared.record.Member.{Member}
 
@@ -33,26 +32,29 @@ either : (a b : Bool) → (a || b) ≡ true → (a ≡ true) ⊎ (b ≡ true)
 either true b h = inl refl
 either false b h = inr h
 
--- a code that suits a kind in bending
+-- a code that suits kind 7, and one that suits kinds 1 and 2
+log-or-sawn-is : {P : Type 0} (code : ℕ) → (eqb code 1 || eqb code 2) ≡ true → (code ≡ 1 → P) → (code ≡ 2 → P) → P
+log-or-sawn-is code h p1 p2 = ⊎-elim (λ e. p1 (eqb-true _ _ e)) (λ e. p2 (eqb-true _ _ e)) (either (eqb code 1) (eqb code 2) h)
+
 in-bending-is : {P : Type 0} (code : ℕ) → (eqb code 1 || eqb code 2 || eqb code 5) ≡ true → (code ≡ 1 → P) → (code ≡ 2 → P) → (code ≡ 5 → P) → P
 in-bending-is code h p1 p2 p5 =
-    ⊎-elim (λ t. ⊎-elim (λ e. p1 (eqb-true _ _ e)) (λ e. p2 (eqb-true _ _ e)) (either (eqb code 1) (eqb code 2) t)) (λ e. p5 (eqb-true _ _ e))
-    (either (eqb code 1 || eqb code 2) (eqb code 5) h)
+    ⊎-elim (λ t. log-or-sawn-is code t p1 p2) (λ e. p5 (eqb-true _ _ e)) (either (eqb code 1 || eqb code 2) (eqb code 5) h)
 
 -- a code that suits a kind is one of the table's
 pub code-range : (kind code : ℕ) → suits kind code ≡ true → In (1 ‥ LAST-CODE) code
 unfolding suits
-code-range kind code h = go (bending kind) (eqb kind 3) (eqb kind 4) h
+code-range kind code h = go (leb kind 2) (eqb kind 3) (eqb kind 4) (eqb kind 7) h
   where
     is : (c : ℕ) → In (1 ‥ LAST-CODE) c → code ≡ c → In (1 ‥ LAST-CODE) code
     is c r e = rw e r
 
-    go : (t u v : Bool) → choose t (eqb code 1 || eqb code 2 || eqb code 5) (choose u (eqb code 2) (choose v (eqb code 3) (eqb code 4))) ≡ true →
+    go : (t u v w : Bool) → choose t (eqb code 1 || eqb code 2 || eqb code 5) (choose u (eqb code 2) (choose v (eqb code 3) (choose w (eqb code 1 || eqb code 2) (eqb code 4)))) ≡ true →
         In (1 ‥ LAST-CODE) code
-    go true u v h = in-bending-is code h (is 1 (omega arith)) (is 2 (omega arith)) (is 5 (omega arith))
-    go false true v h = is 2 (omega arith) (eqb-true _ _ h)
-    go false false true h = is 3 (omega arith) (eqb-true _ _ h)
-    go false false false h = is 4 (omega arith) (eqb-true _ _ h)
+    go true u v w h = in-bending-is code h (is 1 (omega arith)) (is 2 (omega arith)) (is 5 (omega arith))
+    go false true v w h = is 2 (omega arith) (eqb-true _ _ h)
+    go false false true w h = is 3 (omega arith) (eqb-true _ _ h)
+    go false false false true h = log-or-sawn-is code h (is 1 (omega arith)) (is 2 (omega arith))
+    go false false false false h = is 4 (omega arith) (eqb-true _ _ h)
 
 -- what holds of every code of the table holds of one that suits a kind
 pub of-code : (P : ℕ → Bool) → all (λ c. P (suc c)) LAST-CODE ≡ true → (kind code : ℕ) → suits kind code ≡ true → P code ≡ true
@@ -101,93 +103,83 @@ pub record DowelSizes (m : Member) : Type 0 where
   pub outer : field m S4 ≤ 60
   pub cuts : field m S6 ≤ 200
 
-module _ {m : Member} (a : AllowedMember m) where
-  -- a member in bending is of kind 1 or 2
-  one-or-two : field m KIND ≤ 2 → (field m KIND ≡ 1) ⊎ (field m KIND ≡ 2)
-  one-or-two h = go (field m KIND) (a .kind .0) h
-    where
-      go : (k : ℕ) → 1 ≤ k → k ≤ 2 → (k ≡ 1) ⊎ (k ≡ 2)
-      go k p q = elim (decLe k 1) [ yes l ↦ inl (omega arith) | no n ↦ inr (omega arith) ]
+-- a field that this code uses whatever the kind
+abbrev everyKind : (code f : ℕ) → Bool
+everyKind code f = all (λ k. used (suc k) code f) LAST-KIND
 
-  -- the range of a section field in bending
-  in-bending : field m KIND ≤ 2 → (code f : ℕ) → field m CODE ≡ code → f < FIELDS → used 1 code f ≡ true → used 2 code f ≡ true →
-      rangeOf 2 code (field m SPAN) f ≡ rangeOf 1 code (field m SPAN) f →
-      In (rangeOf 1 code (field m SPAN) f) (field m f)
-  in-bending h code f c below u1 u2 same =
-      ⊎-elim (λ e. in-range-of a 1 code f e c below u1)
-      (λ e. subst (λ (r : Range). In r (field m f)) same (in-range-of a 2 code f e c below u2))
-      (one-or-two h)
+module _ {m : Member} (a : AllowedMember m) where
+  -- the range of a section field that a code uses whatever the kind
+  of-section : (code f : ℕ) → field m CODE ≡ code → f < FIELDS → everyKind code f ≡ true → In (rangeOf (field m KIND) code (field m SPAN) f) (field m f)
+  of-section code f c h t =
+      let there : suc (field m KIND - 1) ≡ field m KIND = omega (arith, a .kind) in
+      in-range-of a (field m KIND) code f refl c h
+      (rw there at (all-at (λ k. used (suc k) code f) LAST-KIND t (field m KIND - 1) (omega (arith, a .kind))))
 
   -- the logs of codes 1 and 5 have s1 to s3
-  logs : field m KIND ≤ 2 → (code least greatest : ℕ) → field m CODE ≡ code → sectionRanges code ≡ least ‥ greatest ∷ 0 ‥ 60 ∷ 1 ‥ 3 ∷ [] →
-      ((kind : ℕ) → unusedByCode kind code ≡ S4 ∷ S5 ∷ S6 ∷ []) →
+  logs : (code least greatest : ℕ) → field m CODE ≡ code → sectionRanges code ≡ least ‥ greatest ∷ 0 ‥ 60 ∷ 1 ‥ 3 ∷ [] →
+      everyKind code S1 ≡ true → everyKind code S2 ≡ true → everyKind code S3 ≡ true →
       LogSizes m least greatest
-  unfolding used unusedByKind rangeOf ranges sectionRange
-  logs h code least greatest c r u =
-      let s1 = rw r at (in-bending h code S1 c (omega arith) (rw (u 1)) (rw (u 2)) refl) in
-      let s2 = rw r at (in-bending h code S2 c (omega arith) (rw (u 1)) (rw (u 2)) refl) in
-      let s3 = rw r at (in-bending h code S3 c (omega arith) (rw (u 1)) (rw (u 2)) refl) in
+  unfolding rangeOf ranges sectionRange
+  logs code least greatest c r u1 u2 u3 =
+      let s1 = rw r at (of-section code S1 c (omega arith) u1) in
+      let s2 = rw r at (of-section code S2 c (omega arith) u2) in
+      let s3 = rw r at (of-section code S3 c (omega arith) u3) in
       record { diameter-low = s1 .0; diameter-high = s1 .1; rot = s2 .1; tiers-low = s3 .0; tiers-high = s3 .1 }
 
-  pub log-sizes : field m KIND ≤ 2 → field m CODE ≡ 1 → LogSizes m 13 39
-  unfolding unusedByCode sectionRanges
-  log-sizes h c = logs h 1 13 39 c refl (λ k. refl)
+  pub log-sizes : field m CODE ≡ 1 → LogSizes m 13 39
+  unfolding used unusedByKind unusedByCode bending sectionRanges
+  log-sizes c = logs 1 13 39 c refl refl refl refl
 
-  pub crescent-sizes : field m KIND ≤ 2 → field m CODE ≡ 5 → LogSizes m 14 36
-  unfolding unusedByCode sectionRanges
-  crescent-sizes h c = logs h 5 14 36 c refl (λ k. refl)
+  pub crescent-sizes : field m CODE ≡ 5 → LogSizes m 14 36
+  unfolding used unusedByKind unusedByCode bending sectionRanges
+  crescent-sizes c = logs 5 14 36 c refl refl refl refl
 
-  sawn-of : (k : ℕ) → field m KIND ≡ k → field m CODE ≡ 2 → used k 2 S1 ≡ true → used k 2 S2 ≡ true → used k 2 S5 ≡ true → SawnSizes m
-  unfolding rangeOf ranges sectionRange sectionRanges
-  sawn-of k e c u1 u2 u5 =
+  pub sawn-sizes : field m CODE ≡ 2 → SawnSizes m
+  unfolding used unusedByKind unusedByCode bending rangeOf ranges sectionRange sectionRanges
+  sawn-sizes c =
       record {
-        width = in-range-of a k 2 S1 e c (omega arith) u1 .1;
-        height = in-range-of a k 2 S2 e c (omega arith) u2 .1;
-        pieces = in-range-of a k 2 S5 e c (omega arith) u5 .1;
+        width = of-section 2 S1 c (omega arith) refl .1;
+        height = of-section 2 S2 c (omega arith) refl .1;
+        pieces = of-section 2 S5 c (omega arith) refl .1;
       }
 
-  pub code-in-bending : {P : Type 0} → field m KIND ≤ 2 → (field m CODE ≡ 1 → P) → (field m CODE ≡ 2 → P) → (field m CODE ≡ 5 → P) → P
-  unfolding bending suits
-  code-in-bending h = in-bending-is (field m CODE) (rw (le-leb (field m KIND) 2 h) at (a .section))
+  -- the codes in bending
+  pub code-of-stringer : {P : Type 0} → field m KIND ≤ 2 → (field m CODE ≡ 1 → P) → (field m CODE ≡ 2 → P) → (field m CODE ≡ 5 → P) → P
+  unfolding suits
+  code-of-stringer h = in-bending-is (field m CODE) (rw (le-leb (field m KIND) 2 h) at (a .section))
 
-  pub sawn-in-bending : field m KIND ≤ 2 → field m CODE ≡ 2 → SawnSizes m
-  unfolding used unusedByKind unusedByCode bending
-  sawn-in-bending h c = ⊎-elim (λ e. sawn-of 1 e c refl refl refl) (λ e. sawn-of 2 e c refl refl refl) (one-or-two h)
+  pub code-of-close : {P : Type 0} → field m KIND ≡ 7 → (field m CODE ≡ 1 → P) → (field m CODE ≡ 2 → P) → P
+  unfolding suits
+  code-of-close e = log-or-sawn-is (field m CODE) (rw e at (a .section))
+
+  pub code-in-bending : {P : Type 0} → bending (field m KIND) ≡ true → (field m CODE ≡ 1 → P) → (field m CODE ≡ 2 → P) → (field m CODE ≡ 5 → P) → P
+  unfolding bending
+  code-in-bending h p1 p2 p5 =
+      ⊎-elim (λ t. code-of-stringer (leb-true _ _ t) p1 p2 p5) (λ t. code-of-close (eqb-true _ _ t) p1 p2) (either (leb (field m KIND) 2) (eqb (field m KIND) 7) h)
 
   -- the code of the other kinds
   pub chord-code : field m KIND ≡ 3 → field m CODE ≡ 2
-  unfolding suits bending
+  unfolding suits
   chord-code e = eqb-true _ _ (rw e at (a .section))
 
   pub dowel-code : field m KIND ≡ 4 → field m CODE ≡ 3
-  unfolding suits bending
+  unfolding suits
   dowel-code e = eqb-true _ _ (rw e at (a .section))
 
-  pub area-code : 5 ≤ field m KIND → field m CODE ≡ 4
-  unfolding suits bending
-  area-code h = eqb-true _ _ (rw (lt-leb (field m KIND) 2 (omega arith), ne-eqb (field m KIND) 3 (omega arith), ne-eqb (field m KIND) 4 (omega arith)) at (a .section))
+  pub area-code : 5 ≤ field m KIND → field m KIND ≤ 6 → field m CODE ≡ 4
+  unfolding suits
+  area-code h l = eqb-true _ _ (rw (lt-leb (field m KIND) 2 (omega arith), ne-eqb (field m KIND) 3 (omega arith), ne-eqb (field m KIND) 4 (omega arith), ne-eqb (field m KIND) 7 (omega arith)) at (a .section))
 
-  pub area-size : 5 ≤ field m KIND → field m S1 ≤ 10000
-  unfolding used unusedByKind unusedByCode rangeOf ranges sectionRange sectionRanges
-  area-size h = ⊎-elim (λ e. of 5 e refl) (λ e. of 6 e refl) five-or-six
-    where
-      of : (k : ℕ) → field m KIND ≡ k → used k 4 S1 ≡ true → field m S1 ≤ 10000
-      of k e u = in-range-of a k 4 S1 e (area-code h) (omega arith) u .1
+  pub area-size : field m CODE ≡ 4 → field m S1 ≤ 10000
+  unfolding used unusedByKind unusedByCode bending rangeOf ranges sectionRange sectionRanges
+  area-size c = of-section 4 S1 c (omega arith) refl .1
 
-      five-or-six : (field m KIND ≡ 5) ⊎ (field m KIND ≡ 6)
-      five-or-six = elim (decLe (field m KIND) 5) [ yes l ↦ inl (omega arith) | no n ↦ inr (omega (arith, a .kind)) ]
-
-  pub sawn-chord : field m KIND ≡ 3 → SawnSizes m
-  unfolding used unusedByKind unusedByCode bending
-  sawn-chord e = sawn-of 3 e (chord-code e) refl refl refl
-
-  pub dowel-sizes : field m KIND ≡ 4 → DowelSizes m
-  unfolding used unusedByKind unusedByCode rangeOf ranges sectionRange sectionRanges
-  dowel-sizes e =
-      let c = dowel-code e in
+  pub dowel-sizes : field m CODE ≡ 3 → DowelSizes m
+  unfolding used unusedByKind unusedByCode bending rangeOf ranges sectionRange sectionRanges
+  dowel-sizes c =
       record {
-        diameter = in-range-of a 4 3 S2 e c (omega arith) refl .1;
-        middle = in-range-of a 4 3 S3 e c (omega arith) refl .1;
-        outer = in-range-of a 4 3 S4 e c (omega arith) refl .1;
-        cuts = in-range-of a 4 3 S6 e c (omega arith) refl .1;
+        diameter = of-section 3 S2 c (omega arith) refl .1;
+        middle = of-section 3 S3 c (omega arith) refl .1;
+        outer = of-section 3 S4 c (omega arith) refl .1;
+        cuts = of-section 3 S6 c (omega arith) refl .1;
       }

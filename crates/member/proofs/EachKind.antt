@@ -7,7 +7,7 @@ use native.Mathlib.Nat.{mul-one, le-antisymm}
 use native.Mathlib.Omega.{arith}
 use Rattle.section.specs.Fraction.{Fraction, Sound, over, whole, tenths, hundredths, square, _·_, _⊖_, _⊑_, _≐_}
 use Rattle.section.proofs.Order.{⊑-refl, ≐-⊑, ≐-⊒, ·-mono, ·-sound, ⊖-sound, over-sound, whole-sound, tenths-sound, square-sound}
-use Rattle.member.specs.Formula.{Positive, Valid, stringer, crossBeam, chord, joint, permitted}
+use Rattle.member.specs.Formula.{Positive, Valid, stringer, closeStringer, crossBeam, chord, joint, permitted}
 use Rattle.member.proofs.Exact.{·-positive, permitted-mono}
 
 pub whole-positive : (n : ℕ) → 0 < n → Positive (whole n)
@@ -41,6 +41,16 @@ module _ {W K n q l Kₐ : Fraction} (sW : Sound W) (sK : Sound K) (pn : Positiv
         front = ·-sound (·-sound (whole-sound _) sW) sK;
         dead = ·-sound (·-sound (tenths-sound _) sq) (square-positive pl .sound);
         divisor = ·-positive (·-positive pn pKₐ) (square-positive pl);
+      }
+
+module _ {W K n q l β : Fraction} (sW : Sound W) (sK : Sound K) (pn : Positive n) (sq : Sound q) (pl : Positive l) (pβ : Positive β) where
+  pub close-stringer-valid : Valid (closeStringer W K n q l β)
+  unfolding closeStringer
+  close-stringer-valid =
+      record {
+        front = ·-sound (·-sound (whole-sound _) sW) sK;
+        dead = ·-sound (·-sound (tenths-sound _) sq) (square-positive pl .sound);
+        divisor = ·-positive (·-positive pn pβ) (square-positive pl);
       }
 
 module _ {W K n q l x : Fraction} (sW : Sound W) (sK : Sound K) (pn : Positive n) (sq : Sound q) (pl : Positive l) (px : Positive x) where
@@ -80,6 +90,12 @@ unfolding stringer
 stringer-mono K n l Kₐ v v' hW hq =
     permitted-mono _ _ v v' refl (·-mono (·-mono ⊑-refl hW) ⊑-refl) (·-mono (·-mono ⊑-refl hq) ⊑-refl)
 
+pub close-stringer-mono : (K n l β : Fraction) {W W' q q' : Fraction} → Valid (closeStringer W K n q l β) → Valid (closeStringer W' K n q' l β) → W ⊑ W' → q' ⊑ q →
+    permitted (closeStringer W K n q l β) ≤ permitted (closeStringer W' K n q' l β)
+unfolding closeStringer
+close-stringer-mono K n l β v v' hW hq =
+    permitted-mono _ _ v v' refl (·-mono (·-mono ⊑-refl hW) ⊑-refl) (·-mono (·-mono ⊑-refl hq) ⊑-refl)
+
 pub cross-beam-mono : (K n l x : Fraction) {W W' q q' : Fraction} → Valid (crossBeam W K n q l x) → Valid (crossBeam W' K n q' l x) → W ⊑ W' → q' ⊑ q →
     permitted (crossBeam W K n q l x) ≤ permitted (crossBeam W' K n q' l x)
 unfolding crossBeam
@@ -103,6 +119,11 @@ pub stringer-same : (K n q l Kₐ : Fraction) {W W' : Fraction} → Valid (strin
     permitted (stringer W K n q l Kₐ) ≡ permitted (stringer W' K n q l Kₐ)
 stringer-same K n q l Kₐ v v' e =
     le-antisymm (stringer-mono K n l Kₐ v v' (≐-⊑ e) ⊑-refl) (stringer-mono K n l Kₐ v' v (≐-⊒ e) ⊑-refl)
+
+pub close-stringer-same : (K n q l β : Fraction) {W W' : Fraction} → Valid (closeStringer W K n q l β) → Valid (closeStringer W' K n q l β) → W ≐ W' →
+    permitted (closeStringer W K n q l β) ≡ permitted (closeStringer W' K n q l β)
+close-stringer-same K n q l β v v' e =
+    le-antisymm (close-stringer-mono K n l β v v' (≐-⊑ e) ⊑-refl) (close-stringer-mono K n l β v' v (≐-⊒ e) ⊑-refl)
 
 pub cross-beam-same : (K n q l x : Fraction) {W W' : Fraction} → Valid (crossBeam W K n q l x) → Valid (crossBeam W' K n q l x) → W ≐ W' →
     permitted (crossBeam W K n q l x) ≡ permitted (crossBeam W' K n q l x)

@@ -7,9 +7,10 @@ use native.Mathlib.Nat.{mul-pos, mul-one}
 use native.Mathlib.Omega.{arith}
 use Rattle.section.specs.Fraction.{over, whole, tenths, hundredths, square, _·_, _÷_}
 use Rattle.section.proofs.Order.{whole-sound, tenths-sound, hundredths-sound}
-use Rattle.member.specs.Formula.{stringer, crossBeam, chord, joint, permitted}
+use Rattle.spread.specs.Stiffness.{tenThousandths}
+use Rattle.member.specs.Formula.{stringer, closeStringer, crossBeam, chord, joint, permitted}
 use Rattle.member.proofs.Exact.{permitted-whole}
-use Rattle.member.proofs.EachKind.{stringer-valid, cross-beam-valid, chord-valid, joint-valid, whole-positive, tenths-positive, over-positive, rest-whole, rest-positive}
+use Rattle.member.proofs.EachKind.{stringer-valid, close-stringer-valid, cross-beam-valid, chord-valid, joint-valid, whole-positive, tenths-positive, over-positive, rest-whole, rest-positive}
 use Rattle.section.proofs.Order.{over-sound}
 
 -- t for the truncated difference 2d − e, y for l − x
@@ -26,6 +27,22 @@ stringer-whole w k n q l d t pn pl pd pt =
     (stringer-valid (over-sound w 30 (omega arith)) (tenths-sound k) (tenths-positive n pn) (hundredths-sound q) (whole-positive l pl)
     (over-positive t (2 * d) pt (omega arith)))
     (mul-pos (mul-pos pn pt) (mul-pos pl pl))
+    (omega arith)
+    (omega arith)
+
+pub close-stringer-whole : (w k n q l β : ℕ) → 0 < n → 0 < l → 0 < β →
+    permitted (closeStringer (over w 30) (tenths k) (tenths n) (hundredths q) (whole l) (tenThousandths β)) ≡
+    (10240 * w * k - 24 * q * (l * l)) * 10000 / (n * β * (l * l))
+unfolding closeStringer over whole tenths hundredths square _·_ _÷_
+close-stringer-whole w k n q l β pn pl pβ =
+    permitted-whole (closeStringer (over w 30) (tenths k) (tenths n) (hundredths q) (whole l) (tenThousandths β))
+    (10240 * w * k)
+    (24 * q * (l * l))
+    10000
+    (n * β * (l * l))
+    (close-stringer-valid (over-sound w 30 (omega arith)) (tenths-sound k) (tenths-positive n pn) (hundredths-sound q) (whole-positive l pl)
+    (over-positive β 10000 pβ (omega arith)))
+    (mul-pos (mul-pos pn pβ) (mul-pos pl pl))
     (omega arith)
     (omega arith)
 

@@ -1,5 +1,6 @@
 -- The numbers of a member's record by name. Document 01, 'Files': "per member 16 u16: kind, species, l, d, x, h, q in
--- kgf/m, section code, s1 to s6, A, B".
+-- kgf/m, section code, s1 to s6, A, B". Document 02, request 2/13, of kind 7: "The deck fields use x for board count .., h for board
+-- thickness .., A for board width .. and B for deck rot".
 use Prim.Native.Nat.{ℕ}
 use lib.ListN.{getD}
 use Rattle.member.specs.declared.record.Member.{Member}
@@ -18,11 +19,11 @@ SPAN = 2
 abbrev pub SPACING : ℕ
 SPACING = 3
 
--- x
+-- x; of kind 7 the board count
 abbrev pub DISTANCE : ℕ
 DISTANCE = 4
 
--- h
+-- h; of kind 7 the board thickness
 abbrev pub HEIGHT : ℕ
 HEIGHT = 5
 
@@ -51,7 +52,7 @@ S5 = 12
 abbrev pub S6 : ℕ
 S6 = 13
 
--- A and B, of which μ = A/B
+-- A and B, of which μ = A/B; of kind 7 the board width and the deck rot
 abbrev pub MU-A : ℕ
 MU-A = 14
 
@@ -61,6 +62,10 @@ MU-B = 15
 -- the number of fields of a record
 abbrev pub FIELDS : ℕ
 FIELDS = 16
+
+-- kinds go from 1 to this
+abbrev pub LAST-KIND : ℕ
+LAST-KIND = 7
 
 -- section codes go from 1 to this
 abbrev pub LAST-CODE : ℕ

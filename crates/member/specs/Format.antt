@@ -1,5 +1,5 @@
 -- What the files may hold: the ranges, the fields that are used, the sections that suit a kind. Document 01, 'Net
--- section' (the table of codes) and 'Files'; code 5 from document 02, request 1/13.
+-- section' (the table of codes) and 'Files'; code 5 and kind 7 from document 02, requests 1/13 and 2/13.
 use Prim.Native.Nat.{ℕ, _-_, _≤_, _<_}
 use mathlib.Core.Path.{_≡_}
 use mathlib.Core.Bool.{Bool, true, false, not, _&&_, _||_}
@@ -10,7 +10,7 @@ use lib.Dec.{eqb, leb}
 use Rattle.section.specs.Choose.{choose}
 use Rattle.section.specs.Crescent.{crescentTable, rowOf}
 use Rattle.section.specs.Units.{weight, distance}
-use Rattle.member.specs.Fields.{KIND, SPECIES, SPAN, SPACING, DISTANCE, HEIGHT, CODE, S3, S4, S5, S6, MU-A, MU-B, FIELDS, LAST-CODE, MOST-AXLES, field}
+use Rattle.member.specs.Fields.{KIND, SPECIES, SPAN, SPACING, DISTANCE, HEIGHT, CODE, S3, S4, S5, S6, MU-A, MU-B, FIELDS, LAST-KIND, LAST-CODE, MOST-AXLES, field}
 use Rattle.member.specs.declared.record.Member.{Member}
 use Rattle.member.specs.declared.record.Vehicle.{Vehicle}
 
@@ -43,16 +43,18 @@ sectionRange code s = getD (sectionRanges code) s (0 ‥ 0)
 abbrev pub RangeOfRows : Type 0
 RangeOfRows = (diameter : ℕ) → In (sectionRange 5 0) diameter ↔ ((0 < length (rowOf diameter crescentTable)) × (diameter ≤ 39))
 
--- "In bending (kinds 1 and 2)"
+-- "In bending (kinds 1 and 2)", and kind 7
 unfoldable pub bending : ℕ → Bool
-bending kind = leb kind 2
+bending kind = leb kind 2 || eqb kind 7
 
--- which section codes suit a kind: the column 'section' of the table of permitted loads, and code 5 "for kinds 1 and 2"
+-- which section codes suit a kind: the column 'section' of the table of permitted loads, and code 5 "for kinds 1 and 2". "Section codes 1 and 2
+-- suit kind 7; code 5 does not."
 unfoldable pub suits : ℕ → ℕ → Bool
 suits kind code =
-    choose (bending kind) (eqb code 1 || eqb code 2 || eqb code 5)
+    choose (leb kind 2) (eqb code 1 || eqb code 2 || eqb code 5)
     (choose (eqb kind 3) (eqb code 2)
-    (choose (eqb kind 4) (eqb code 3) (eqb code 4)))
+    (choose (eqb kind 4) (eqb code 3)
+    (choose (eqb kind 7) (eqb code 1 || eqb code 2) (eqb code 4))))
 
 -- "Unused and therefore 0: kind 1 x, h, A, B; kind 2 d, h, A, B; kind 3 A, B; kind 6 species"
 unfoldable pub unusedByKind : ℕ → List ℕ
@@ -62,7 +64,7 @@ unusedByKind kind =
     (choose (eqb kind 3) (MU-A ∷ MU-B ∷ [])
     (choose (eqb kind 6) (SPECIES ∷ []) [])))
 
--- "the section fields that a code lacks", and the lost area (s6 of code 2) in bending
+-- "the section fields that a code lacks", and the lost area (s6 of code 2) in bending; of kind 7 "Lost area must be 0."
 unfoldable pub unusedByCode : ℕ → ℕ → List ℕ
 unusedByCode kind code =
     choose (eqb code 1) (S4 ∷ S5 ∷ S6 ∷ [])
@@ -82,13 +84,19 @@ used kind code f = not (holds f (unusedByKind kind)) && not (holds f (unusedByCo
 abbrev pub distanceRange : (kind l : ℕ) → Range
 distanceRange kind l = choose (eqb kind 2) (10 ‥ 1000) (1 ‥ (l - 1))
 
--- "Ranges: l 100..5000, d 10..1000, x 1..l−1 (kind 2: 10..1000), h 10..500, q 0..10000, A and B 1..1000", with the kinds,
--- the species and the codes, in the order of the record
+-- a range of kind 7, and that of the other kinds
+abbrev pub closeOr : (kind : ℕ) → Range → Range → Range
+closeOr kind close other = choose (eqb kind 7) close other
+
+-- "Ranges: l 100..5000, d 10..1000, x 1..l−1 (kind 2: 10..1000), h 10..500, q 0..10000, A and B 1..1000", with the kinds, the species and the codes,
+-- in the order of the record. Kind 7: "d 30..100. The deck fields use x for board count 1..10, h for board thickness 1..20, A for board width 1..60 and
+-- B for deck rot 0..20"
 unfoldable pub ranges : (kind code l : ℕ) → List Range
 ranges kind code l =
-    1 ‥ 6 ∷ 1 ‥ 8 ∷ 100 ‥ 5000 ∷ 10 ‥ 1000 ∷ distanceRange kind l ∷ 10 ‥ 500 ∷ 0 ‥ 10000 ∷ 1 ‥ LAST-CODE ∷
-    sectionRange code 0 ∷ sectionRange code 1 ∷ sectionRange code 2 ∷ sectionRange code 3 ∷ sectionRange code 4 ∷
-    sectionRange code 5 ∷ 1 ‥ 1000 ∷ 1 ‥ 1000 ∷ []
+    1 ‥ LAST-KIND ∷ 1 ‥ 8 ∷ 100 ‥ 5000 ∷ closeOr kind (30 ‥ 100) (10 ‥ 1000) ∷ closeOr kind (1 ‥ 10) (distanceRange kind l) ∷
+    closeOr kind (1 ‥ 20) (10 ‥ 500) ∷ 0 ‥ 10000 ∷ 1 ‥ LAST-CODE ∷
+    sectionRange code 0 ∷ sectionRange code 1 ∷ sectionRange code 2 ∷ sectionRange code 3 ∷ sectionRange code 4 ∷ sectionRange code 5 ∷
+    closeOr kind (1 ‥ 60) (1 ‥ 1000) ∷ closeOr kind (0 ‥ 20) (1 ‥ 1000) ∷ []
 
 -- the range of a field
 unfoldable pub rangeOf : (kind code l f : ℕ) → Range
@@ -96,12 +104,12 @@ rangeOf kind code l f = getD (ranges kind code l) f (0 ‥ 0)
 
 -- What a member's record may hold, with no order of tests in it.
 pub record AllowedMember (m : Member) : Type 0 where
-  pub kind : In (1 ‥ 6) (field m KIND)
+  pub kind : In (1 ‥ LAST-KIND) (field m KIND)
   pub section : suits (field m KIND) (field m CODE) ≡ true
   pub unused : (f : ℕ) → f < FIELDS → used (field m KIND) (field m CODE) f ≡ false → field m f ≡ 0
   pub range : (f : ℕ) → f < FIELDS → used (field m KIND) (field m CODE) f ≡ true → In (rangeOf (field m KIND) (field m CODE) (field m SPAN) f) (field m f)
-  -- "A at most B"
-  pub ordered : field m MU-A ≤ field m MU-B
+  -- "A at most B"; of kind 7 "A may exceed B"
+  pub ordered : ¬ (field m KIND ≡ 7) → field m MU-A ≤ field m MU-B
 
 -- "class 0 (lorries), .. class 1 (wheeled tractors, heavy trailers)"
 abbrev pub classRange : Range

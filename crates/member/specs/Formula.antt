@@ -18,6 +18,10 @@ abbrev pub ⟨_−_⟩/_ : Fraction → Fraction → Fraction → Formula
 unfoldable pub stringer : (W K n q l Kₐ : Fraction) → Formula
 stringer W K n q l Kₐ = ⟨ whole 1536 · W · K − tenths 12 · q · square l ⟩/ (n · Kₐ · square l)
 
+-- (10) closely spaced stringer: document 02, request 2/13, "(3072WK − 2.4ql²) / (nβl²)"
+unfoldable pub closeStringer : (W K n q l β : Fraction) → Formula
+closeStringer W K n q l β = ⟨ whole 3072 · W · K − tenths 24 · q · square l ⟩/ (n · β · square l)
+
 -- (30) cross beam
 unfoldable pub crossBeam : (W K n q l x : Fraction) → Formula
 crossBeam W K n q l x = ⟨ whole 1280 · W · K − tenths 12 · q · square l ⟩/ (n · x · l)

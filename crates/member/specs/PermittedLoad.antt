@@ -1,4 +1,5 @@
--- The permitted load of a member, from its record, the vehicle's class and its track. Document 01, 'Permitted load'.
+-- The permitted load of a member, from its record, the vehicle's class and its track. Document 01, 'Permitted load'; kind 7 from document 02,
+-- request 2/13.
 use Prim.Native.Nat.{ℕ, _-_, _*_, min}
 use lib.Dec.{eqb}
 use Rattle.section.specs.Choose.{choose}
@@ -8,8 +9,11 @@ use Rattle.section.specs.Fraction.{Fraction, over, whole, tenths, hundredths}
 use Rattle.section.specs.Log.{tieredModulus}
 use Rattle.section.specs.Sawn.{sawnModulus, sawnArea, areaLeft}
 use Rattle.section.specs.Species.{bendingFactor, shearFactor}
+use Rattle.spread.specs.Beta.{beta}
+use Rattle.spread.specs.Inertia.{tieredInertia, sawnInertia, deckInertia}
+use Rattle.spread.specs.Stiffness.{tenThousandths, stiffnessNumber}
 use Rattle.member.specs.Fields.{KIND, SPECIES, SPAN, SPACING, DISTANCE, HEIGHT, DEAD-LOAD, CODE, S1, S2, S3, S4, S5, S6, MU-A, MU-B, field}
-use Rattle.member.specs.Formula.{Formula, stringer, crossBeam, chord, joint, dowelled, keyed, plates, permitted}
+use Rattle.member.specs.Formula.{Formula, stringer, closeStringer, crossBeam, chord, joint, dowelled, keyed, plates, permitted}
 use Rattle.member.specs.declared.record.Member.{Member}
 
 -- "n = 1.4 for class 0 (lorries), 1.1 for class 1 (wheeled tractors, heavy trailers)"
@@ -29,6 +33,24 @@ sectionModulus m =
     choose (eqb (field m CODE) 1) (whole (tieredModulus (field m S1) (field m S2) (field m S3)))
     (choose (eqb (field m CODE) 5) (tenths (tieredCrescent (field m S1) (field m S2) (field m S3)))
     (sawnModulus (field m S1) (field m S2) (field m S3) (field m S4) (field m S5)))
+
+-- I of section codes 1 and 2
+unfoldable pub sectionInertia : Member → Fraction
+sectionInertia m =
+    choose (eqb (field m CODE) 1) (tieredInertia (field m S1) (field m S2) (field m S3))
+    (sawnInertia (field m S1) (field m S2) (field m S3) (field m S4) (field m S5))
+
+-- J: "The deck fields use x for board count .., h for board thickness .., A for board width .. and B for deck rot"
+unfoldable pub boardInertia : Member → Fraction
+boardInertia m = deckInertia (field m DISTANCE) (field m HEIGHT) (field m MU-A) (field m MU-B)
+
+-- k, kept in ten-thousandths
+unfoldable pub stiffnessOf : Member → ℕ
+stiffnessOf m = stiffnessNumber (whole (field m SPACING)) (sectionInertia m) (whole (field m SPAN)) (boardInertia m)
+
+-- β, kept in ten-thousandths
+unfoldable pub betaOf : Member → (track : ℕ) → ℕ
+betaOf m track = beta (stiffnessOf m) (field m SPACING) track
 
 -- F of section codes 2 and 4
 unfoldable pub netArea : Member → ℕ
@@ -89,8 +111,15 @@ module _ (m : Member) where
     abbrev Kₐ : Fraction
     Kₐ = distribution (field m SPACING) track
 
+    -- "the exact value is the one with this β"
+    abbrev β : Fraction
+    β = tenThousandths (betaOf m track)
+
     abbrev pub stringerOf : Formula
     stringerOf = stringer W K n q l Kₐ
+
+    abbrev pub closeStringerOf : Formula
+    closeStringerOf = closeStringer W K n q l β
 
     abbrev pub crossBeamOf : Formula
     crossBeamOf = crossBeam W K n q l x
@@ -104,7 +133,9 @@ module _ (m : Member) where
     unfoldable pub formulaOf : Formula
     formulaOf =
         choose (eqb (field m KIND) 1) stringerOf
-        (choose (eqb (field m KIND) 2) crossBeamOf (choose (eqb (field m KIND) 3) chordOf jointOf))
+        (choose (eqb (field m KIND) 2) crossBeamOf
+        (choose (eqb (field m KIND) 3) chordOf
+        (choose (eqb (field m KIND) 7) closeStringerOf jointOf)))
 
     unfoldable pub permittedLoad : ℕ
     permittedLoad = permitted formulaOf

@@ -3,7 +3,8 @@
 ghost use mathlib.Core.Path.{_≡_};
 ghost use Prim.Native.Nat.{_-_, _*_, _/_, _≤_, _<_, min};
 ghost use Rattle.section.specs.Fraction.{over, whole, tenths, hundredths, _≐_};
-ghost use Rattle.member.specs.Formula.{stringer, crossBeam, chord, joint, dowelled, keyed, plates, permitted};
+ghost use Rattle.spread.specs.Stiffness.{tenThousandths};
+ghost use Rattle.member.specs.Formula.{stringer, closeStringer, crossBeam, chord, joint, dowelled, keyed, plates, permitted};
 ghost use Rattle.member.specs.PermittedLoad.{distribution};
 ghost use Rattle.member.specs.Sizes.{Sizes, Spaced, Inside, Ratio};
 use section::CentiKgf;
@@ -32,6 +33,16 @@ pub fn stringer(w: u64, k: u64, n: u64, q: KgfPerM, l: Cm, d: Cm, track: Cm) -> 
 {
     let m = l.0 * l.0;
     distributed(less(5120 * w * k, 12 * q.0 * m), n, d, track, m)
+}
+
+// (10), with β in ten-thousandths.
+pub fn close_stringer(w: u64, k: u64, n: u64, q: KgfPerM, l: Cm, beta: u64) -> KgfPerM
+    requires { ⌜ (w ≤ 43200000) × Sizes k n (q .0) (l .0) × (1 ≤ beta) × (beta ≤ 20000) ⌝ }
+    ensures { λ r. ⌜ r .0 ≡ permitted (closeStringer (over w 30) (tenths k) (tenths n) (hundredths (q .0)) (whole (l .0)) (tenThousandths beta)) ⌝ }
+{
+    let m = l.0 * l.0;
+    let front = less(10240 * w * k, 24 * q.0 * m);
+    KgfPerM(round_down(front * 10000, n * beta * m))
 }
 
 // (30)

@@ -1,12 +1,14 @@
 // The permitted load of a member, from its record, the vehicle's class and its track.
 ghost use mathlib.Core.Path.{_≡_};
+ghost use mathlib.Core.Bool.{true};
 ghost use Prim.Native.Nat.{ℕ, _*_, _≤_};
 ghost use Rattle.section.specs.Fraction.{over, _≐_};
 ghost use Rattle.section.specs.Species.{bendingTenths, shearTenths};
 ghost use Rattle.member.specs.Fields.{KIND, SPECIES, CODE, MU-B, field};
-ghost use Rattle.member.specs.Format.{AllowedMember};
-ghost use Rattle.member.specs.PermittedLoad.{loadFactorTenths, sectionModulus, netArea, capacity, jointFront, permittedLoad};
+ghost use Rattle.member.specs.Format.{AllowedMember, bending};
+ghost use Rattle.member.specs.PermittedLoad.{loadFactorTenths, sectionModulus, sectionInertia, stiffnessOf, netArea, capacity, jointFront, permittedLoad};
 use crate::formula::chord;
+use crate::formula::close_stringer;
 use crate::formula::cross_beam;
 use crate::formula::dowelled;
 use crate::formula::joint;
@@ -25,6 +27,11 @@ use section::sawn::sawn_area;
 use section::sawn::sawn_modulus_sixths;
 use section::species::bending_factor;
 use section::species::shear_factor;
+use spread::beta::beta;
+use spread::inertia::deck_inertia;
+use spread::inertia::sawn_inertia;
+use spread::inertia::tiered_inertia;
+use spread::stiffness::stiffness_number;
 
 // The load factor n, in tenths.
 fn load_factor(class: u8) -> u64
@@ -37,7 +44,7 @@ fn load_factor(class: u8) -> u64
 // The section modulus of a log or a sawn beam in bending, in thirtieths of a cm³: whole cm³, sixths and tenths are whole numbers of
 // these.
 fn modulus_thirtieths(m: Member) -> u64
-    requires { ⌜ AllowedMember m × (field m KIND ≤ 2) ⌝ }
+    requires { ⌜ AllowedMember m × (bending (field m KIND) ≡ true) ⌝ }
     ensures is { λ r. ⌜ over r 30 ≐ sectionModulus m ⌝ }
     ensures cap { λ r. ⌜ r ≤ 43200000 ⌝ }
 {
@@ -62,7 +69,7 @@ fn chord_area(m: Member) -> u64
 
 // The area of a keyed joint or of steel plates, in cm².
 fn joint_area(m: Member) -> u64
-    requires { ⌜ AllowedMember m × (5 ≤ field m KIND) ⌝ }
+    requires { ⌜ AllowedMember m × (5 ≤ field m KIND) × (field m KIND ≤ 6) ⌝ }
     ensures is { λ r. ⌜ r ≡ netArea m ⌝ }
     ensures cap { λ r. ⌜ r ≤ 10000 ⌝ }
 {
@@ -98,7 +105,7 @@ fn shear(m: Member) -> u64
 
 // What stands in front of a joint's formula, times 1000 · B.
 fn joint_front(m: Member) -> u64
-    requires { ⌜ AllowedMember m × (4 ≤ field m KIND) ⌝ }
+    requires { ⌜ AllowedMember m × (4 ≤ field m KIND) × (field m KIND ≤ 6) ⌝ }
     ensures { λ r. ⌜ over r (1000 * field m MU-B) ≐ jointFront m ⌝ }
 {
     let kind = m.number(KIND);
@@ -125,6 +132,41 @@ fn stringer_load(m: Member, class: u8, track: Cm) -> KgfPerM
         m.span(),
         m.spacing(),
         track,
+    )
+}
+
+// The moment of inertia of a closely spaced stringer, in twelfths of a cm⁴.
+fn inertia(m: Member) -> u64
+    requires { ⌜ AllowedMember m × (field m KIND ≡ 7) ⌝ }
+    ensures is { λ r. ⌜ over r 12 ≐ sectionInertia m ⌝ }
+    ensures cap { λ r. ⌜ r ≤ 518400000 ⌝ }
+{
+    if m.number(CODE) == 1 {
+        return tiered_inertia(m.log());
+    }
+    sawn_inertia(m.sawn())
+}
+
+// The stiffness number k of a closely spaced stringer and its deck, in ten-thousandths.
+fn stiffness(m: Member) -> u64
+    requires { ⌜ AllowedMember m × (field m KIND ≡ 7) ⌝ }
+    ensures is { λ r. ⌜ r ≡ stiffnessOf m ⌝ }
+    ensures cap { λ r. ⌜ r ≤ 100000 ⌝ }
+{
+    stiffness_number(m.spacing(), inertia(m), m.span(), deck_inertia(m.deck()))
+}
+
+fn close_stringer_load(m: Member, class: u8, track: Cm) -> KgfPerM
+    requires { ⌜ AllowedMember m × (field m KIND ≡ 7) ⌝ }
+    ensures { λ r. ⌜ r .0 ≡ permittedLoad m class (track .0) ⌝ }
+{
+    close_stringer(
+        modulus_thirtieths(m),
+        bending(m),
+        load_factor(class),
+        m.dead_load(),
+        m.span(),
+        beta(stiffness(m), m.spacing(), track),
     )
 }
 
@@ -161,7 +203,7 @@ fn chord_load(m: Member, class: u8, track: Cm) -> KgfPerM
 }
 
 fn joint_load(m: Member, class: u8, track: Cm) -> KgfPerM
-    requires { ⌜ AllowedMember m × (4 ≤ field m KIND) ⌝ }
+    requires { ⌜ AllowedMember m × (4 ≤ field m KIND) × (field m KIND ≤ 6) ⌝ }
     ensures { λ r. ⌜ r .0 ≡ permittedLoad m class (track .0) ⌝ }
 {
     joint(
@@ -191,6 +233,9 @@ pub fn permitted_load(m: Member, class: u8, track: Cm) -> KgfPerM
     }
     if kind == 3 {
         return chord_load(m, class, track);
+    }
+    if kind == 7 {
+        return close_stringer_load(m, class, track);
     }
     joint_load(m, class, track)
 }

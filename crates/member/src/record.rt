@@ -1,7 +1,7 @@
 // A member and a vehicle as their files hold them.
 ghost use mathlib.Core.Path.{_≡_};
 ghost use Prim.Native.Nat.{_<_};
-ghost use Rattle.member.specs.Fields.{SPAN, SPACING, DISTANCE, HEIGHT, DEAD-LOAD, CODE, S1, S2, S3, S4, S5, S6, field};
+ghost use Rattle.member.specs.Fields.{KIND, SPAN, SPACING, DISTANCE, HEIGHT, DEAD-LOAD, CODE, S1, S2, S3, S4, S5, S6, MU-A, MU-B, field};
 use section::Cm;
 use section::Kgf;
 use section::KgfPerM;
@@ -10,6 +10,7 @@ use section::crescent::Crescent;
 use section::dowel::Dowels;
 use section::log::Log;
 use section::sawn::Sawn;
+use spread::inertia::Deck;
 
 // The places of a member's sixteen numbers, in the file's order.
 pub const KIND: usize = 0;
@@ -187,6 +188,22 @@ impl Member {
             diameter,
             depth,
             tiers,
+        }
+    }
+    // The deck over closely spaced stringers: x board count, h board thickness, A board width, B deck rot.
+    pub fn deck(self) -> Deck
+        requires { ⌜ field self KIND ≡ 7 ⌝ }
+        ensures { λ r. ⌜ (r .boards ≡ field self DISTANCE) × (r .thickness .0 ≡ field self HEIGHT) × (r .width .0 ≡ field self MU-A) × (r .rot .0 ≡ field self MU-B) ⌝ }
+    {
+        let boards = self.number(DISTANCE);
+        let thickness = Cm(self.number(HEIGHT));
+        let width = Cm(self.number(MU_A));
+        let rot = Cm(self.number(MU_B));
+        Deck {
+            boards,
+            thickness,
+            width,
+            rot,
         }
     }
 }

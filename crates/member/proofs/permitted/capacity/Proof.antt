@@ -10,7 +10,7 @@ dowels-requires : tie.Need-dowels-requires
 dowels-requires c κs = dowel-code (c .pre .0) (c .pre .1)
 
 dowel-capacity-requires : tie.Need-dowel-capacity-requires
-dowel-capacity-requires c κs = let p = c .before .pre in omega (arith, dowel-sizes (p .0) (p .1), c .dowels .ensures)
+dowel-capacity-requires c κs = let p = c .before .pre in omega (arith, dowel-sizes (p .0) (dowel-code (p .0) (p .1)), c .dowels .ensures)
 
 returns : tie.Need-returns
 unfolding capacity

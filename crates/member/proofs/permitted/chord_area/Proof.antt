@@ -4,7 +4,7 @@ use native.Mathlib.Omega.{arith}
 use borrow.Author.Tests.{eq-eqb}
 use Rattle.member.specs.Fields.{CODE, field}
 use Rattle.member.specs.PermittedLoad.{netArea}
-use Rattle.member.proofs.Allowed.{chord-code, sawn-chord}
+use Rattle.member.proofs.Allowed.{chord-code, sawn-sizes}
 use Rattle.member.proofs.permitted.chord_area.Statement.{statement}
 use Rattle.member.proofs.permitted.chord_area.Tie as tie
 
@@ -12,7 +12,7 @@ sawn-requires : tie.Need-sawn-requires
 sawn-requires c κs = chord-code (c .pre .0) (c .pre .1)
 
 sawn-area-requires : tie.Need-sawn-area-requires
-sawn-area-requires c κs = let p = c .before .pre in omega (arith, sawn-chord (p .0) (p .1), c .sawn .ensures)
+sawn-area-requires c κs = let p = c .before .pre in omega (arith, sawn-sizes (p .0) (chord-code (p .0) (p .1)), c .sawn .ensures)
 
 returns : tie.Need-returns
 unfolding netArea

@@ -41,9 +41,9 @@ chord-requires c κs =
     omega (
       arith,
       sizes (p .0) 0 11 (omega arith) (omega arith),
-      spacing (p .0) 3 (p .1) refl,
-      height (p .0) 3 (p .1) refl,
-      inside (p .0) 3 (p .1) refl refl,
+      spacing (p .0) 3 (p .1) refl refl,
+      height (p .0) 3 (p .1) refl refl,
+      inside (p .0) 3 (p .1) refl refl refl,
       c .before .before .before .before .before .before .chord-area .ensures .1,
       c .before .before .before .before .before .bending .ensures .1,
       c .before .before .before .before .load-factor .ensures .1,

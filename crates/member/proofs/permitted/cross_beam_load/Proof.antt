@@ -12,7 +12,8 @@ use Rattle.member.proofs.permitted.cross_beam_load.Statement.{statement
 use Rattle.member.proofs.permitted.cross_beam_load.Tie as tie
 
 modulus-thirtieths-requires : tie.Need-modulus-thirtieths-requires
-modulus-thirtieths-requires c κs = search needs
+unfolding bending
+modulus-thirtieths-requires c κs = (c .pre .0, rw (c .pre .1))
 
 bending-requires : tie.Need-bending-requires
 unfolding used unusedByKind unusedByCode bending suits

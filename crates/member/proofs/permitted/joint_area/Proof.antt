@@ -24,9 +24,9 @@ unfolding netArea
 returns c =
     let m = c .before .before .before .args .m in
     let p = c .before .before .before .pre in (
-      rw (ne-eqb (field m CODE) 2 (omega (arith, area-code (p .0) (p .1))))
+      rw (ne-eqb (field m CODE) 2 (omega (arith, area-code (p .0) (p .1) (p .2))))
           (rw (c .before .before .number .ensures, c .before .number2 .ensures) at (c .area-left .ensures .0)),
-      omega (arith, c .area-left .ensures .1, c .before .before .number .ensures, area-size (p .0) (p .1)),
+      omega (arith, c .area-left .ensures .1, c .before .before .number .ensures, area-size (p .0) (area-code (p .0) (p .1) (p .2))),
     )
 
 pub joint-area-spec : {M : Type 1} → statement M

@@ -10,7 +10,7 @@ use Rattle.section.proofs.Order.{whole-sound, tenths-sound}
 use Rattle.member.specs.Fields.{KIND, field}
 use Rattle.member.specs.Format.{used, unusedByKind, unusedByCode, suits, bending}
 use Rattle.member.specs.PermittedLoad.{jointFront}
-use Rattle.member.proofs.Allowed.{dowel-sizes}
+use Rattle.member.proofs.Allowed.{dowel-code, dowel-sizes}
 use Rattle.member.proofs.Quantities.{species, height}
 use Rattle.member.proofs.Falling.{joint, dowelled-same}
 use borrow.Author.Needs.{needs}
@@ -38,7 +38,7 @@ five c = sym (c .before .before .before .before .number .ensures) ∙ c .if2 .ta
 six : (c : tie.Else2) → field (c .before .before .before .before .before .args .m) KIND ≡ 6
 six c =
     let p = c .before .before .before .before .before .pre in
-    omega (arith, p .0 .kind .1, p .1, c .before .before .before .before .number .ensures, c .before .if1 .left, c .if2 .left)
+    omega (arith, p .1, p .2, c .before .before .before .before .number .ensures, c .before .if1 .left, c .if2 .left)
 
 bending-requires : tie.Need-bending-requires
 unfolding used unusedByKind unusedByCode bending suits
@@ -49,7 +49,7 @@ number-requires-3 c κs = search needs
 
 dowelled-requires : tie.Need-dowelled-requires
 unfolding used unusedByKind unusedByCode bending suits
-dowelled-requires c κs = let p = c .before .before .before .before .before .before .before .pre in let e = four (c .before .before .before) in omega (arith, height (p .0) 4 e refl, dowel-sizes (p .0) e, joint (p .0) (p .1) .ratio, c .before .before .capacity .ensures .1, c .before .bending .ensures .1)
+dowelled-requires c κs = let p = c .before .before .before .before .before .before .before .pre in let e = four (c .before .before .before) in omega (arith, height (p .0) 4 e refl refl, dowel-sizes (p .0) (dowel-code (p .0) e), joint (p .0) (p .1) (p .2) .ratio, c .before .before .capacity .ensures .1, c .before .bending .ensures .1)
 
 returns : tie.Need-returns
 unfolding jointFront
@@ -69,7 +69,7 @@ shear-requires c κs = let p = c .before .before .before .before .before .before
 
 keyed-requires : tie.Need-keyed-requires
 unfolding used unusedByKind unusedByCode bending suits
-keyed-requires c κs = let p = c .before .before .before .before .before .before .before .pre in omega (arith, height (p .0) 5 (five (c .before .before)) refl, joint (p .0) (p .1) .ratio, c .before .joint-area .ensures .1, c .shear .ensures .1)
+keyed-requires c κs = let p = c .before .before .before .before .before .before .before .pre in omega (arith, height (p .0) 5 (five (c .before .before)) refl refl, joint (p .0) (p .1) (p .2) .ratio, c .before .joint-area .ensures .1, c .shear .ensures .1)
 
 returns-2 : tie.Need-returns-2
 unfolding jointFront
@@ -84,7 +84,7 @@ joint-area-requires-2 c κs = search needs
 
 plates-requires : tie.Need-plates-requires
 unfolding used unusedByKind unusedByCode bending suits
-plates-requires c κs = let p = c .before .before .before .before .before .before .pre in omega (arith, height (p .0) 6 (six (c .before)) refl, joint (p .0) (p .1) .ratio, c .joint-area2 .ensures .1)
+plates-requires c κs = let p = c .before .before .before .before .before .before .pre in omega (arith, height (p .0) 6 (six (c .before)) refl refl, joint (p .0) (p .1) (p .2) .ratio, c .joint-area2 .ensures .1)
 
 returns-3 : tie.Need-returns-3
 unfolding jointFront

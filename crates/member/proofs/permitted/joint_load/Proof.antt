@@ -39,13 +39,13 @@ spacing-requires c κs = search needs
 joint-requires : tie.Need-joint-requires
 joint-requires c κs =
     let p = c .before .before .before .before .before .before .before .before .pre in
-    omega (arith, sizes (p .0) 0 11 (omega arith) (omega arith), joint (p .0) (p .1), c .before .before .before .before .before .before .load-factor .ensures .1)
+    omega (arith, sizes (p .0) 0 11 (omega arith) (omega arith), joint (p .0) (p .1) (p .2), c .before .before .before .before .before .before .load-factor .ensures .1)
 
 returns : tie.Need-returns
 returns c =
     let a = c .before .before .before .before .before .before .before .before .before .args in
     let p = c .before .before .before .before .before .before .before .before .before .pre in
-    let j = joint (p .0) (p .1) in
+    let j = joint (p .0) (p .1) (p .2) in
     rw (
       c .joint .ensures,
       c .before .before .before .before .before .before .before .load-factor .ensures .0,
@@ -55,7 +55,7 @@ returns c =
       c .before .before .before .span .ensures,
       c .before .before .distance .ensures,
       c .before .spacing .ensures,
-      joint-load (a .m) (a .class) (a .track .0) (p .1),
+      joint-load (a .m) (a .class) (a .track .0) (p .1) (p .2),
     )
     (joint-same _ _ _ _ _ _
     (joint-valid (whole (field (a .m) SPAN)) (over-sound _ (1000 * field (a .m) MU-B) (omega (arith, j .ratio .low-b))) (load-factor-positive (a .class)) (hundredths-sound _)

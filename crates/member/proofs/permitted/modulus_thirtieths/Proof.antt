@@ -11,7 +11,7 @@ use Rattle.section.proofs.Order.{in-smaller-unit}
 use Rattle.section.proofs.Sections.{tiered-modulus-cap}
 use Rattle.member.specs.Fields.{CODE, S1, S2, S3, field}
 use Rattle.member.specs.PermittedLoad.{sectionModulus}
-use Rattle.member.proofs.Allowed.{LogSizes, log-sizes, crescent-sizes, code-in-bending, sawn-in-bending}
+use Rattle.member.proofs.Allowed.{LogSizes, log-sizes, crescent-sizes, sawn-sizes, code-in-bending}
 use borrow.Author.Needs.{needs}
 use Rattle.member.proofs.permitted.modulus_thirtieths.Statement.{statement}
 use Rattle.member.proofs.permitted.modulus_thirtieths.Tie as tie
@@ -27,7 +27,7 @@ log-requires : tie.Need-log-requires
 log-requires c κs = one c
 
 log : (c : tie.After-log) → LogSizes (c .before .before .before .args .m) 13 39
-log c = let s = c .before .before .before .pre in log-sizes (s .0) (s .1) (one (c .before))
+log c = let s = c .before .before .before .pre in log-sizes (s .0) (one (c .before))
 
 tiered-modulus-requires : tie.Need-tiered-modulus-requires
 tiered-modulus-requires c κs = omega (arith, log c, c .log .ensures)
@@ -55,7 +55,7 @@ crescent-requires : tie.Need-crescent-requires
 crescent-requires c κs = five c
 
 crescent : (c : tie.After-crescent) → LogSizes (c .before .before .before .before .args .m) 14 36
-crescent c = let s = c .before .before .before .before .pre in crescent-sizes (s .0) (s .1) (five (c .before))
+crescent c = let s = c .before .before .before .before .pre in crescent-sizes (s .0) (five (c .before))
 
 tiered-crescent-requires : tie.Need-tiered-crescent-requires
 tiered-crescent-requires c κs = omega (arith, crescent c, c .crescent .ensures)
@@ -86,7 +86,7 @@ sawn-requires c κs = two c
 sawn-modulus-sixths-requires : tie.Need-sawn-modulus-sixths-requires
 sawn-modulus-sixths-requires c κs =
     let s = c .before .before .before .before .pre in
-    omega (arith, sawn-in-bending (s .0) (s .1) (two (c .before)), c .sawn .ensures)
+    omega (arith, sawn-sizes (s .0) (two (c .before)), c .sawn .ensures)
 
 mul-result-3 : tie.Need-mul-result-3
 mul-result-3 c = omega (arith, c .sawn-modulus-sixths .ensures .1)

@@ -25,11 +25,17 @@ chord-load-requires c κs = search needs
 returns-3 : tie.Need-returns-3
 returns-3 c = search needs
 
-joint-load-requires : tie.Need-joint-load-requires
-joint-load-requires c κs = search needs
+close-stringer-load-requires : tie.Need-close-stringer-load-requires
+close-stringer-load-requires c κs = search needs
 
 returns-4 : tie.Need-returns-4
 returns-4 c = search needs
+
+joint-load-requires : tie.Need-joint-load-requires
+joint-load-requires c κs = search needs
+
+returns-5 : tie.Need-returns-5
+returns-5 c = search needs
 
 pub permitted-load-spec : {M : Type 1} → statement M
 permitted-load-spec =
@@ -42,5 +48,7 @@ permitted-load-spec =
     returns-2
     chord-load-requires
     returns-3
+    close-stringer-load-requires
+    returns-4
     joint-load-requires
-    returns-4)
+    returns-5)

@@ -12,7 +12,8 @@ use Rattle.member.proofs.permitted.stringer_load.Statement.{statement}
 use Rattle.member.proofs.permitted.stringer_load.Tie as tie
 
 modulus-thirtieths-requires : tie.Need-modulus-thirtieths-requires
-modulus-thirtieths-requires c κs = search needs
+unfolding bending
+modulus-thirtieths-requires c κs = (c .pre .0, rw (c .pre .1))
 
 bending-requires : tie.Need-bending-requires
 unfolding used unusedByKind unusedByCode bending suits
@@ -37,7 +38,7 @@ stringer-requires c κs =
     omega (
       arith,
       sizes (p .0) 0 11 (omega arith) (omega arith),
-      spacing (p .0) 1 (p .1) refl,
+      spacing (p .0) 1 (p .1) refl refl,
       c .before .before .before .before .before .modulus-thirtieths .ensures .1,
       c .before .before .before .before .bending .ensures .1,
       c .before .before .before .load-factor .ensures .1,
@@ -59,7 +60,7 @@ returns c =
     )
     (stringer-same _ _ _ _ _
     (stringer-valid (over-sound _ 30 (omega arith)) (tenths-sound _) (load-factor-positive (a .class)) (hundredths-sound _) (span-positive (p .0))
-    (distribution-positive _ (a .track .0) (spacing (p .0) 1 (p .1) refl .low)))
+    (distribution-positive _ (a .track .0) (spacing (p .0) 1 (p .1) refl refl .low)))
     (valid-stringer (p .0) (a .class) (a .track .0) (p .1))
     (c .before .before .before .before .before .before .modulus-thirtieths .ensures .0))
 
