@@ -1,5 +1,5 @@
--- Wear and heavier axles: a member's permitted load never rises and the vehicle load on it never falls, so no verdict turns from
--- refuse to pass. The figure of matched members never rises, since the member that has it is matched with one that permits no more.
+-- Wear and heavier axles: a member's permitted load never rises, where the rot of closely spaced stringers stays, and the vehicle load on it
+-- never falls, so no verdict turns from refuse to pass. The figure of matched members never rises, since the member that has it is matched with one that permits no more.
 -- Assumes nothing.
 use Prim.Native.Nat.{ℕ, zero, suc, _≤_, _<_}
 use mathlib.Core.Path.{_≡_, refl}
@@ -11,8 +11,8 @@ use borrow.Author.Tests.{leb-true, le-leb}
 use Rattle.influence.proofs.Load.{load-grows}
 use Rattle.member.specs.Fields.{SPAN, DISTANCE}
 use Rattle.member.specs.Format.{AllowedMember}
-use Rattle.rating.specs.Compare.{Heavier, Matching, SamePlaces}
-use Rattle.member.specs.Wear.{rotFields, lostFields, wears, Worn}
+use Rattle.rating.specs.Compare.{Heavier, Matching, SpreadsKept, SamePlaces}
+use Rattle.member.specs.Wear.{rotFields, lostFields, rots, wears, Worn, SpreadKept}
 use Rattle.rating.specs.VehicleLoad.{vehicleLoadOn}
 use Rattle.rating.specs.Judgement.{verdictOf, permittedFor, passes, everyPasses, ratingOf, judgementOf}
 use Rattle.rating.specs.Surveyed.{memberAt, AllowedMembers}
@@ -46,24 +46,25 @@ module _ {v v' : Vehicle} (hv : Heavier v v') where
   module _ {m m' : Member} (a : AllowedMember m) (a' : AllowedMember m') (w : Worn m m') where
     -- the vehicle load on a member never falls: base and apex are alike
     pub vehicle-load-rises : vehicleLoadOn m v ≤ vehicleLoadOn m' v'
-    unfolding vehicleLoadOn wears rotFields lostFields
+    unfolding vehicleLoadOn wears rots rotFields lostFields
     vehicle-load-rises =
         rw (← (same-kind a a' w), ← (same a a' w SPAN refl (omega arith)), ← (same a a' w DISTANCE refl (omega arith)))
         (load-grows (v .weights) (v .distances) (v' .weights) (v' .distances) (line-sized a .triangle) (hv .axles) (hv .weights) (hv .distances))
 
-    pub permitted-falls : permittedFor v' m' ≤ permittedFor v m
-    permitted-falls = rw (← (hv .class), ← (hv .track)) (permitted-load-falls a a' w (v .class) (v .track .0))
+    module _ (k : SpreadKept m m') where
+      pub permitted-falls : permittedFor v' m' ≤ permittedFor v m
+      permitted-falls = rw (← (hv .class), ← (hv .track)) (permitted-load-falls a a' w (v .class) (v .track .0) k)
 
-    passed-before : passes v' m' ≡ true → passes v m ≡ true
-    unfolding passes
-    passed-before e = le-leb (vehicleLoadOn m v) (permittedFor v m) (omega (arith, leb-true (vehicleLoadOn m' v') (permittedFor v' m') e, vehicle-load-rises, permitted-falls))
+      passed-before : passes v' m' ≡ true → passes v m ≡ true
+      unfolding passes
+      passed-before e = le-leb (vehicleLoadOn m v) (permittedFor v m) (omega (arith, leb-true (vehicleLoadOn m' v') (permittedFor v' m') e, vehicle-load-rises, permitted-falls))
 
-    -- no member's verdict turns from refuse to pass
-    pub member-stays-refused : ratingOf m v .verdict ≡ Refuse → ratingOf m' v' .verdict ≡ Refuse
-    unfolding ratingOf
-    member-stays-refused = stays-refused (passes v m) (passes v' m') passed-before
+      -- no member's verdict turns from refuse to pass
+      pub member-stays-refused : ratingOf m v .verdict ≡ Refuse → ratingOf m' v' .verdict ≡ Refuse
+      unfolding ratingOf
+      member-stays-refused = stays-refused (passes v m) (passes v' m') passed-before
 
-  module _ {ms ms' : List Member} (a : AllowedMembers ms) (a' : AllowedMembers ms') (t : Matching ms ms') where
+  module _ {ms ms' : List Member} (a : AllowedMembers ms) (a' : AllowedMembers ms') (t : Matching ms ms') (k : SpreadsKept ms ms' (t .partner)) where
     -- the figure never rises
     pub figure-falls : 1 ≤ length ms → judgementOf ms' v' .figure .0 ≤ judgementOf ms v .figure .0
     unfolding judgementOf
@@ -71,7 +72,7 @@ module _ {v v' : Vehicle} (hv : Heavier v v') where
         let h = least-had (permittedFor v) ms l in
         let i = h .index in
         let inside = t .inside i (h .inside) in
-        omega (arith, h .gives, least-below (permittedFor v') ms' (t .partner i) inside, permitted-falls (a i (h .inside)) (a' (t .partner i) inside) (t .worn i (h .inside)))
+        omega (arith, h .gives, least-below (permittedFor v') ms' (t .partner i) inside, permitted-falls (a i (h .inside)) (a' (t .partner i) inside) (t .worn i (h .inside)) (k i (h .inside)))
 
     -- no bridge's verdict turns from refuse to pass
     pub bridge-stays-refused : judgementOf ms v .verdict ≡ Refuse → judgementOf ms' v' .verdict ≡ Refuse
@@ -79,7 +80,7 @@ module _ {v v' : Vehicle} (hv : Heavier v v') where
     bridge-stays-refused =
         stays-refused (everyPasses v ms) (everyPasses v' ms')
         (λ e. passes-when-every v ms
-        (λ i l. passed-before (a i l) (a' (t .partner i) (t .inside i l)) (t .worn i l) (every-passes v' ms' e (t .partner i) (t .inside i l))))
+        (λ i l. passed-before (a i l) (a' (t .partner i) (t .inside i l)) (t .worn i l) (k i l) (every-passes v' ms' e (t .partner i) (t .inside i l))))
 
 -- the same place in both, members added at the end
 pub same-places : {ms ms' : List Member} → SamePlaces ms ms' → Matching ms ms'

@@ -3,7 +3,7 @@
 -- Assumes nothing.
 use Prim.Native.Nat.{ℕ, _-_, _*_, _≤_, _<_}
 use mathlib.Core.Path.{_≡_, refl}
-use mathlib.Core.Bool.{Bool, true, false}
+use mathlib.Core.Bool.{Bool, true, false, _||_}
 use native.Mathlib.Decide.{decLe}
 use native.Mathlib.Omega.{arith}
 use lib.Dec.{eqb}
@@ -24,7 +24,7 @@ use Rattle.member.proofs.Quantities.{by-kind, sizes, panel, inside}
 -- the base and the apex by kind
 pub base-is-span : (kind l x : ℕ) → (kind ≡ 2 → ⊥) → lineOf kind l x .base ≡ 2 * l
 unfolding lineOf
-base-is-span kind l x n = rw (ne-eqb kind 2 n) (go (eqb kind 1))
+base-is-span kind l x n = rw (ne-eqb kind 2 n) (go (eqb kind 1 || eqb kind 7))
   where
     go : (t : Bool) → choose {X = Line} t (record { base = 2 * l; apex = l }) (record { base = 2 * l; apex = 2 * x }) .base ≡ 2 * l
     go true = refl
@@ -32,15 +32,15 @@ base-is-span kind l x n = rw (ne-eqb kind 2 n) (go (eqb kind 1))
 
 pub base-is-panels : (kind l x : ℕ) → kind ≡ 2 → lineOf kind l x .base ≡ 2 * (2 * x)
 unfolding lineOf
-base-is-panels kind l x e = rw (ne-eqb kind 1 (omega arith), eq-eqb kind 2 e)
+base-is-panels kind l x e = rw (ne-eqb kind 1 (omega arith), ne-eqb kind 7 (omega arith), eq-eqb kind 2 e)
 
-pub apex-is-middle : (kind l x : ℕ) → kind ≡ 1 → lineOf kind l x .apex ≡ l
+pub apex-is-middle : (kind l x : ℕ) → (eqb kind 1 || eqb kind 7) ≡ true → lineOf kind l x .apex ≡ l
 unfolding lineOf
-apex-is-middle kind l x e = rw (eq-eqb kind 1 e)
+apex-is-middle kind l x e = rw e
 
-pub apex-is-distance : (kind l x : ℕ) → (kind ≡ 1 → ⊥) → lineOf kind l x .apex ≡ 2 * x
+pub apex-is-distance : (kind l x : ℕ) → (eqb kind 1 || eqb kind 7) ≡ false → lineOf kind l x .apex ≡ 2 * x
 unfolding lineOf
-apex-is-distance kind l x n = rw (ne-eqb kind 1 n) (go (eqb kind 2))
+apex-is-distance kind l x n = rw n (go (eqb kind 2))
   where
     go : (t : Bool) → choose {X = Line} t (record { base = 2 * (2 * x); apex = 2 * x }) (record { base = 2 * l; apex = 2 * x }) .apex ≡ 2 * x
     go true = refl
@@ -64,10 +64,11 @@ module _ {m : Member} (a : AllowedMember m) where
       by-kind a (λ k. field m KIND ≡ k → Sized (lineOf k (field m SPAN) (field m DISTANCE)))
       (λ e. omega (arith, span))
       (λ e. omega (arith, panel a e))
-      (λ e. omega (arith, span, inside a 3 e refl refl))
-      (λ e. omega (arith, span, inside a 4 e refl refl))
-      (λ e. omega (arith, span, inside a 5 e refl refl))
-      (λ e. omega (arith, span, inside a 6 e refl refl))
+      (λ e. omega (arith, span, inside a 3 e refl refl refl))
+      (λ e. omega (arith, span, inside a 4 e refl refl refl))
+      (λ e. omega (arith, span, inside a 5 e refl refl refl))
+      (λ e. omega (arith, span, inside a 6 e refl refl refl))
+      (λ e. omega (arith, span))
       refl
     where
       span : (1 ≤ field m SPAN) × (field m SPAN ≤ 5000)

@@ -6,7 +6,7 @@ use mathlib.Core.Path.{_≡_}
 use mathlib.Core.List.{List}
 use lib.ListN.{length}
 use Rattle.section.specs.Units.{weight, distance}
-use Rattle.member.specs.Wear.{Worn}
+use Rattle.member.specs.Wear.{Worn, SpreadKept}
 use Rattle.member.specs.declared.record.Member.{Member}
 use Rattle.member.specs.declared.record.Vehicle.{Vehicle}
 use Rattle.rating.specs.Surveyed.{memberAt}
@@ -25,6 +25,10 @@ pub record Matching (ms ms' : List Member) : Type 0 where
   pub inside : (i : ℕ) → i < length ms → partner i < length ms'
   pub one-to-one : (i k : ℕ) → i < length ms → k < length ms → partner i ≡ partner k → i ≡ k
   pub worn : (i : ℕ) → i < length ms → Worn (memberAt ms i) (memberAt ms' (partner i))
+
+-- "a kind 7 record has the same rot in both surveys, deck rot included": of each member and its partner
+abbrev pub SpreadsKept : (ms ms' : List Member) (partner : ℕ → ℕ) → Type 0
+SpreadsKept ms ms' partner = (i : ℕ) → i < length ms → SpreadKept (memberAt ms i) (memberAt ms' (partner i))
 
 -- "a shared member has the same place in both surveys. The second survey has at least as many members as the first"
 pub record SamePlaces (ms ms' : List Member) : Type 0 where

@@ -1,5 +1,6 @@
 -- The vehicle load on a member. Document 01, 'Vehicle load'. Places on a triangle are whole half centimetres (crate influence).
 use Prim.Native.Nat.{ℕ, _*_}
+use mathlib.Core.Bool.{_||_}
 use lib.Dec.{eqb}
 use Rattle.section.specs.Choose.{choose}
 use Rattle.influence.specs.Influence.{vehicleLoad}
@@ -20,10 +21,10 @@ pub record Line : Type 0 where
   pub base : ℕ
   pub apex : ℕ
 
--- "Kind 1: base l, apex l/2. Kind 2: base 2x, apex x. Kinds 3 to 6: base l, apex x."
+-- "Kind 1: base l, apex l/2. Kind 2: base 2x, apex x. Kinds 3 to 6: base l, apex x." Kind 7, document 02, request 2/13: "base and apex as kind 1"
 unfoldable pub lineOf : (kind l x : ℕ) → Line
 lineOf kind l x =
-    choose (eqb kind 1) (record { base = cm l; apex = halfOf l })
+    choose (eqb kind 1 || eqb kind 7) (record { base = cm l; apex = halfOf l })
     (choose (eqb kind 2) (record { base = cm (2 * x); apex = cm x })
     (record { base = cm l; apex = cm x }))
 

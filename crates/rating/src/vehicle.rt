@@ -30,12 +30,14 @@ fn base_of(m: Member) -> HalfCm
     half_cm(m.span())
 }
 
-// The apex: the middle of a stringer, else at x.
+// The apex: the middle of a stringer, closely spaced or not, else at x.
 fn apex_of(m: Member) -> HalfCm
     requires { ⌜ AllowedMember m ⌝ }
     ensures { λ r. ⌜ r .0 ≡ influenceLine m .apex ⌝ }
 {
-    if m.number(KIND) == 1 {
+    let kind = m.number(KIND);
+    let stringer = (kind == 1) | (kind == 7);
+    if stringer {
         return half_of(m.span());
     }
     half_cm(m.distance())

@@ -1,7 +1,9 @@
--- `rating::vehicle::apex_of` meets its contract: the middle where the kind is 1, else the distance x.
+-- `rating::vehicle::apex_of` meets its contract: the middle where the kind is 1 or 7, else the distance x.
 -- Assumes nothing.
 use Prim.Native.Nat.{ℕ, _*_, _≤_}
+use mathlib.Core.Bool.{true, false, _||_}
 use mathlib.Core.Path.{_≡_, ap, sym, subst⁻¹, _∙_}
+use lib.Dec.{eqb}
 use Rattle.member.specs.Fields.{KIND, SPAN, DISTANCE, field}
 use Rattle.rating.specs.VehicleLoad.{influenceLine}
 use Rattle.rating.proofs.Lines.{apex-is-middle, apex-is-distance, distance-high, line-sized}
@@ -22,9 +24,11 @@ returns : tie.Need-returns
 returns c =
     let at = c .before .before in
     let m = at .before .before .args .m in
+    let kind = at .before .number .result in
+    let stringer : (eqb kind 1 || eqb kind 7) ≡ true = at .if1 .taken in
     c .half-of .ensures
     ∙ c .before .span .ensures
-    ∙ sym (apex-is-middle (field m KIND) (field m SPAN) (field m DISTANCE) (sym (at .before .number .ensures) ∙ at .if1 .taken))
+    ∙ sym (apex-is-middle (field m KIND) (field m SPAN) (field m DISTANCE) (rw (at .before .number .ensures) at stringer))
 
 distance-requires : tie.Need-distance-requires
 distance-requires c κs = search needs
@@ -33,7 +37,9 @@ distance-requires c κs = search needs
 at-distance : (c : tie.Else1) → let m = c .before .before .args .m in influenceLine m .apex ≡ 2 * field m DISTANCE
 at-distance c =
     let m = c .before .before .args .m in
-    apex-is-distance (field m KIND) (field m SPAN) (field m DISTANCE) (λ e. c .if1 .left (c .before .number .ensures ∙ e))
+    let kind = c .before .number .result in
+    let other : (eqb kind 1 || eqb kind 7) ≡ false = c .if1 .left in
+    apex-is-distance (field m KIND) (field m SPAN) (field m DISTANCE) (rw (c .before .number .ensures) at other)
 
 half-cm-requires : tie.Need-half-cm-requires
 half-cm-requires c κs =
