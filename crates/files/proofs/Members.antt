@@ -3,15 +3,15 @@ use Prim.Native.Nat.{ℕ, _+_, _<_}
 use mathlib.Core.Path.{_≡_, refl, sym, _∙_}
 use mathlib.Core.Bool.{Bool, true, false, not, _&&_, _||_, and-assoc}
 use native.Mathlib.Numerals.{add-one}
-use lib.Dec.{eqb, leb}
+use lib.Dec.{eqb}
 use borrow.Author.Tests.{eqb-true, eq-eqb, ne-eqb, not-false}
 use Rattle.member.specs.declared.record.Member.{Member}
-use Rattle.member.specs.Fields.{KIND, SPAN, CODE, MU-A, MU-B, FIELDS, field}
+use Rattle.member.specs.Fields.{KIND, SPAN, CODE, FIELDS, field}
 use Rattle.member.specs.Format.{In, rangeOf}
 use Rattle.section.specs.Choose.{all}
 use Rattle.files.specs.Reading.{isIn}
 use Rattle.files.specs.Refused.{uses}
-use Rattle.files.specs.SurveyFile.{zeroed, within, codeFault, fieldFault, memberFault}
+use Rattle.files.specs.SurveyFile.{zeroed, within, ordered, codeFault, fieldFault, memberFault}
 use Rattle.files.proofs.Tests.{either, neither, in-range, range-in, all-fails}
 
 module _ (m : Member) where
@@ -57,12 +57,12 @@ module _ (m : Member) where
 
 -- A is at most B, and each of the first f fields is in its range where used
 abbrev pub ranged : Member → ℕ → Bool
-ranged m f = leb (field m MU-A) (field m MU-B) && all (within m) f
+ranged m f = ordered m && all (within m) f
 
 module _ (m : Member) where
   -- one field more
   pub ranged-more : (f : ℕ) (good next : Bool) → good ≡ ranged m f → next ≡ within m f → (good && next) ≡ ranged m (f + 1)
-  ranged-more f good next g n = rw (add-one, g, n) (and-assoc (leb (field m MU-A) (field m MU-B)) (all (within m) f) (within m f))
+  ranged-more f good next g n = rw (add-one, g, n) (and-assoc (ordered m) (all (within m) f) (within m f))
 
   -- the first of 4, 5 and 6 is the record's fault
   pub code-first : (n : ℕ) → codeFault m ≡ n → (n ≡ 0 → ⊥) → memberFault m ≡ n

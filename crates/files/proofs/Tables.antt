@@ -1,16 +1,16 @@
 -- The program's tables against the definitions: a test that antt computes over a whole table, and the law that turns it into
 -- the rule at each entry. Each law holds of any table that passes its test.
 use Prim.Native.Nat.{ℕ, zero, suc, _+_, _-_, _*_, _≤_, _<_}
-use mathlib.Core.Path.{_≡_, refl, ap, _∙_}
-use mathlib.Core.List.{List}
-use mathlib.Core.Bool.{Bool, true, false, _&&_, _||_}
+use mathlib.Core.Path.{_≡_, refl, sym, ap, _∙_}
+use mathlib.Core.List.{List, [], _∷_}
+use mathlib.Core.Bool.{Bool, true, false, _&&_, _||_, or-false}
 use native.Mathlib.Omega.{arith}
 use lib.ListN.{getD}
 use lib.Dec.{eqb, leb}
 use borrow.Author.Tests.{eqb-true, ne-eqb}
-use Rattle.member.specs.Format.{Range, _‥_, In, rangeOf, ranges, sectionRange, sectionRanges}
-use Rattle.member.specs.Fields.{LAST-CODE}
-use Rattle.section.specs.Choose.{all}
+use Rattle.member.specs.Format.{Range, _‥_, In, holds, rangeOf, ranges, sectionRange, sectionRanges}
+use Rattle.member.specs.Fields.{S6, LAST-CODE}
+use Rattle.section.specs.Choose.{choose, all}
 use Rattle.section.proofs.Table.{all-at, laidOut, entry}
 use Rattle.files.proofs.Tests.{either}
 
@@ -41,13 +41,35 @@ section-field kind code l f low high = let there : f ≡ 8 + (f - 8) = omega ari
     at (suc (suc (suc (suc (suc zero))))) h = refl
     at (suc (suc (suc (suc (suc (suc s)))))) h = absurd (omega arith)
 
--- x and s1 to s6 have rules of their own
+-- s1 to s6 have rules of their own, and so has x
+abbrev pub sectional : ℕ → Bool
+sectional f = leb 8 f && leb f 13
+
 abbrev pub ruled : ℕ → Bool
-ruled f = eqb f 4 || (leb 8 f && leb f 13)
+ruled f = eqb f 4 || sectional f
 
-abbrev pub plainTest : (side : Range → ℕ) (table : List ℕ) (kind code l f : ℕ) → Bool
-plainTest side table kind code l f = ruled f || eqb (getD table f 0) (side (rangeOf kind code l f))
+-- the other fields, of which a test keeps those with rules of their own apart
+abbrev pub plainTest : (apart : ℕ → Bool) (side : Range → ℕ) (table : List ℕ) (rs : List Range) (f : ℕ) → Bool
+plainTest apart side table rs f = apart f || eqb (getD table f 0) (side (getD rs f (0 ‥ 0)))
 
-pub plain-entry : (side : Range → ℕ) (table : List ℕ) (kind code l : ℕ) → all (plainTest side table kind code l) 16 ≡ true → (f : ℕ) → f < 16 → ruled f ≡ false → getD table f 0 ≡ side (rangeOf kind code l f)
-plain-entry side table kind code l agree f h other =
-    eqb-true _ _ (either (ruled f) _ (all-at (plainTest side table kind code l) 16 agree f h) other)
+plain-entry : (apart : ℕ → Bool) (side : Range → ℕ) (table : List ℕ) (rs : List Range) → all (plainTest apart side table rs) 16 ≡ true → (f : ℕ) → f < 16 → apart f ≡ false →
+    getD table f 0 ≡ side (getD rs f (0 ‥ 0))
+plain-entry apart side table rs agree f h other =
+    eqb-true _ _ (either (apart f) _ (all-at (plainTest apart side table rs) 16 agree f h) other)
+
+-- of kind 7, and of any other
+pub close-entry : (side : Range → ℕ) (table : List ℕ) (code l : ℕ) → all (plainTest sectional side table (ranges 7 code l)) 16 ≡ true → (kind : ℕ) → kind ≡ 7 → (f : ℕ) → f < 16 →
+    sectional f ≡ false → getD table f 0 ≡ side (rangeOf kind code l f)
+unfolding rangeOf
+close-entry side table code l agree kind e f h other = rw e (plain-entry sectional side table (ranges 7 code l) agree f h other)
+
+pub other-entry : (side : Range → ℕ) (table : List ℕ) (code l : ℕ) → all (plainTest ruled side table (ranges 1 code l)) 16 ≡ true → (kind : ℕ) → ¬ (kind ≡ 7) → (f : ℕ) → f < 16 →
+    ruled f ≡ false → getD table f 0 ≡ side (rangeOf kind code l f)
+unfolding rangeOf ranges
+other-entry side table code l agree kind n f h other =
+    plain-entry ruled side table (ranges kind code l) (rw (ne-eqb kind 7 n) agree) f h other
+
+-- the lost area is unused in bending alone
+pub lost-area : (bends : Bool) (f : ℕ) → (bends && eqb f S6) ≡ holds f (choose bends (S6 ∷ []) [])
+lost-area true f = sym (or-false (eqb f S6))
+lost-area false f = refl

@@ -8,7 +8,7 @@ use mathlib.Core.List.{List, [], _∷_}
 use mathlib.Core.Logic.{_⊎_}
 use lib.ListN.{length, take}
 use Rattle.member.specs.declared.record.Member.{Member}
-use Rattle.member.specs.Fields.{KIND, SPECIES, SPAN, CODE, MU-A, MU-B, FIELDS, MOST-MEMBERS, MOST-AXLES, field}
+use Rattle.member.specs.Fields.{KIND, SPECIES, SPAN, CODE, MU-A, MU-B, FIELDS, LAST-KIND, MOST-MEMBERS, MOST-AXLES, field}
 use Rattle.member.specs.Format.{_‥_, In, used, rangeOf, suits, classRange, trackRange, AllowedMember}
 use Rattle.files.specs.declared.Refusal.{Refusal}
 use Rattle.files.specs.Words.{byteAt, wordAt}
@@ -47,7 +47,7 @@ uses m f = used (field m KIND) (field m CODE) f
 
 -- what 4, 5 and 6 ask of a record
 abbrev pub KindGood : Member → Type 0
-KindGood m = In (1 ‥ 6) (field m KIND)
+KindGood m = In (1 ‥ LAST-KIND) (field m KIND)
 
 abbrev pub SpeciesGood : Member → Type 0
 SpeciesGood m = uses m SPECIES ≡ true → In (1 ‥ 8) (field m SPECIES)
@@ -74,8 +74,8 @@ pub data MemberFault (m : Member) : ℕ → Type 0 where
   out-of-range : KindGood m → SpeciesGood m → SectionGood m → UnusedGood m → (f : ℕ) → f < FIELDS → uses m f ≡ true →
       ¬ (In (rangeOf (field m KIND) (field m CODE) (field m SPAN) f) (field m f)) →
       MemberFault m 7
-  -- "as A above B"
-  A-above-B : KindGood m → SpeciesGood m → SectionGood m → UnusedGood m → field m MU-B < field m MU-A → MemberFault m 7
+  -- "as A above B"; of kind 7 "A may exceed B"
+  A-above-B : KindGood m → SpeciesGood m → SectionGood m → UnusedGood m → ¬ (field m KIND ≡ 7) → field m MU-B < field m MU-A → MemberFault m 7
 
 -- the header is good, the record of index i is the first that the documents do not allow, and this is its fault
 pub record FirstRecord (bytes : List ℕ) (number i : ℕ) : Type 0 where

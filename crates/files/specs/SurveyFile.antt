@@ -7,7 +7,7 @@ use lib.ListN.{replicate}
 use lib.Dec.{eqb, leb}
 use Rattle.member.specs.declared.record.Member.{Member}
 use Rattle.member.specs.declared.record.Survey.{Survey}
-use Rattle.member.specs.Fields.{KIND, SPECIES, SPAN, CODE, MU-A, MU-B, FIELDS, MOST-MEMBERS, field}
+use Rattle.member.specs.Fields.{KIND, SPECIES, SPAN, CODE, MU-A, MU-B, FIELDS, LAST-KIND, MOST-MEMBERS, field}
 use Rattle.member.specs.Format.{_‥_, used, rangeOf, suits}
 use Rattle.files.specs.Words.{byteAt, words, each}
 use Rattle.section.specs.Choose.{all}
@@ -48,15 +48,19 @@ within m f = not (used (field m KIND) (field m CODE) f) || isIn (rangeOf (field 
 unfoldable pub codeFault : Member → ℕ
 codeFault m =
     firstOf
-    (4 unless isIn (1 ‥ 6) (field m KIND) ∷
+    (4 unless isIn (1 ‥ LAST-KIND) (field m KIND) ∷
     5 unless within m SPECIES ∷
     6 unless suits (field m KIND) (field m CODE) ∷
     [])
 
+-- "A at most B"; of kind 7 "A may exceed B"
+unfoldable pub ordered : Member → Bool
+ordered m = eqb (field m KIND) 7 || leb (field m MU-A) (field m MU-B)
+
 -- "8 an unused field is not 0 (lost area in bending too); 7 a used number outside its range, as A above B"
 unfoldable pub fieldFault : Member → ℕ
 fieldFault m =
-    firstOf (8 unless all (zeroed m) FIELDS ∷ 7 unless (leb (field m MU-A) (field m MU-B) && all (within m) FIELDS) ∷ [])
+    firstOf (8 unless all (zeroed m) FIELDS ∷ 7 unless (ordered m && all (within m) FIELDS) ∷ [])
 
 -- "then the records: in each 4, 5, 6, 8, 7"
 unfoldable pub memberFault : Member → ℕ

@@ -4,17 +4,20 @@ use crate::ranges::is_used;
 use crate::ranges::limits_of;
 use crate::ranges::suits_kind;
 use crate::words::wider;
+use member::record::CLOSE_STRINGER;
 use member::record::CODE;
 use member::record::KIND;
+use member::record::MU_A;
+use member::record::MU_B;
 use member::record::Member;
 use member::record::SPAN;
 use member::record::SPECIES;
 ghost use mathlib.Core.Path.{_≡_};
 ghost use Prim.Native.Nat.{_<_};
 ghost use Rattle.member.specs.Fields.{SPECIES, FIELDS};
-ghost use Rattle.files.specs.SurveyFile.{zeroed, within, codeFault};
+ghost use Rattle.files.specs.SurveyFile.{zeroed, within, ordered, codeFault};
 
-const LAST_KIND: u32 = 6;
+const LAST_KIND: u32 = 7;
 
 const LAST_SPECIES: u32 = 8;
 
@@ -45,6 +48,15 @@ pub fn code_fault(m: Member) -> u64
         return 6;
     }
     0
+}
+
+// A is at most B; of closely spaced stringers, whose board width and deck rot they are, it need not be.
+pub fn is_ordered(m: Member) -> bool
+    ensures { λ r. ⌜ r ≡ ordered m ⌝ }
+{
+    let close = m.fields[KIND] == CLOSE_STRINGER;
+    let below = m.fields[MU_A] <= m.fields[MU_B];
+    close | below
 }
 
 // The field is 0 where the record does not use it.

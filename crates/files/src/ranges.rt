@@ -1,5 +1,6 @@
 // The tables of documents 01 and 02: which section suits a kind, which fields a record uses, and the ranges of those and of an axle's.
 use crate::words::wider;
+use member::record::CLOSE_STRINGER;
 use member::record::DISTANCE;
 use member::record::HEIGHT;
 use member::record::MU_A;
@@ -18,11 +19,11 @@ ghost use Rattle.member.specs.Format.{_‥_, holds, unusedByKind, unusedByCode,
 ghost use Rattle.files.specs.Reading.{isIn};
 ghost use Rattle.files.specs.VehicleFile.{axleRange};
 
-// The ranges of the fields that no code and no kind changes; 0 for x and for s1 to s6.
+// The ranges of the fields that no code changes; 0 for s1 to s6, and for x of the kinds but closely spaced stringers.
 const LOW: [u32; 16] = [1, 1, 100, 10, 0, 10, 0, 1, 0, 0, 0, 0, 0, 0, 1, 1];
 
 const HIGH: [u32; 16] = [
-    6, // kind
+    7, // kind
     8, // species
     5000, // l
     1000, // d
@@ -38,6 +39,28 @@ const HIGH: [u32; 16] = [
     0,
     1000, // A
     1000, // B
+];
+
+// Those of closely spaced stringers.
+const CLOSE_LOW: [u32; 16] = [1, 1, 100, 30, 1, 1, 0, 1, 0, 0, 0, 0, 0, 0, 1, 0];
+
+const CLOSE_HIGH: [u32; 16] = [
+    7, // kind
+    8, // species
+    5000, // l
+    100, // d
+    10, // board count
+    20, // board thickness
+    10000, // q
+    5, // code
+    0,
+    0,
+    0,
+    0,
+    0,
+    0,
+    60, // board width
+    20, // deck rot
 ];
 
 // The ranges of s1 to s6, six for each code; 0 for what a code lacks.
@@ -145,6 +168,11 @@ pub fn suits_kind(kind: u16, code: u16) -> bool
     if kind == 4 {
         return code == 3;
     }
+    if kind == CLOSE_STRINGER {
+        let log = code == 1;
+        let sawn = code == 2;
+        return log | sawn;
+    }
     code == 4
 }
 
@@ -168,7 +196,7 @@ fn unused_by_kind(kind: u16, field: usize) -> bool
     false
 }
 
-// "the section fields that a code lacks", and in bending the lost area of a sawn section.
+// "the section fields that a code lacks", and in bending, kind 7 included, the lost area of a sawn section.
 fn unused_by_code(kind: u16, code: u16, field: usize) -> bool
     ensures { λ r. ⌜ r ≡ holds field (unusedByCode kind code) ⌝ }
 {
@@ -177,10 +205,8 @@ fn unused_by_code(kind: u16, code: u16, field: usize) -> bool
         return last;
     }
     if code == 2 {
-        if kind <= 2 {
-            return field == S6;
-        }
-        return false;
+        let bending = (kind <= 2) | (kind == CLOSE_STRINGER);
+        return bending & (field == S6);
     }
     if code == 4 {
         return (field == S3) | last;
@@ -203,13 +229,19 @@ pub fn limits_of(kind: u16, code: u16, span: u16, field: usize) -> Limits
     requires { ⌜ field < FIELDS ⌝ }
     ensures { λ r. ⌜ (r .low ≡ rangeOf kind code span field .low) × (r .high ≡ rangeOf kind code span field .high) ⌝ }
 {
-    if field == DISTANCE {
-        return distance_limits(kind, span);
-    }
     if S1 <= field {
         if field <= S6 {
             return section_limits(code, field - S1);
         }
+    }
+    if kind == CLOSE_STRINGER {
+        return Limits {
+            low: CLOSE_LOW[field],
+            high: CLOSE_HIGH[field],
+        };
+    }
+    if field == DISTANCE {
+        return distance_limits(kind, span);
     }
     Limits {
         low: LOW[field],

@@ -3,6 +3,7 @@ use crate::Reading;
 use crate::Refusal;
 use crate::SurveyRead;
 use crate::fault::code_fault;
+use crate::fault::is_ordered;
 use crate::fault::is_within;
 use crate::fault::is_zeroed;
 use crate::header::header_fault;
@@ -10,8 +11,6 @@ use crate::words::wide;
 use crate::words::words;
 use member::record::FIELDS;
 use member::record::MOST_MEMBERS;
-use member::record::MU_A;
-use member::record::MU_B;
 use member::record::Member;
 use member::record::Survey;
 ghost use mathlib.Core.Path.{_≡_};
@@ -53,7 +52,7 @@ fn first_fault(bytes: &[u8], count: usize) -> Reading
             answer = Reading::Refused(Refusal { number, place });
             break 'records;
         }
-        let mut good = m.fields[MU_A] <= m.fields[MU_B];
+        let mut good = is_ordered(m);
         let mut f: usize = 0;
         while f < FIELDS {
             if !is_zeroed(m, f) {

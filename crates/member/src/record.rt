@@ -47,6 +47,9 @@ pub const MU_B: usize = 15;
 
 pub const FIELDS: usize = 16;
 
+// The kind of closely spaced stringers.
+pub const CLOSE_STRINGER: u16 = 7;
+
 // The most members of a survey, and the most axles of a vehicle.
 pub const MOST_MEMBERS: usize = 64;
 

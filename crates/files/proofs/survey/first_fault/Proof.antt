@@ -45,14 +45,11 @@ add-place c = omega arith
 code-fault-requires : tie.Need-code-fault-requires Inv-loop μ-loop Inv-records μ-records
 code-fault-requires c κs = tt
 
-element-copy-out-good : tie.Need-element-copy-out-good Inv-loop μ-loop Inv-records μ-records
-element-copy-out-good c = omega arith
-
-element-copy-out-good-2 : tie.Need-element-copy-out-good-2 Inv-loop μ-loop Inv-records μ-records
-element-copy-out-good-2 c = omega arith
+is-ordered-requires : tie.Need-is-ordered-requires Inv-loop μ-loop Inv-records μ-records
+is-ordered-requires c κs = tt
 
 loop-holds : tie.Need-loop-holds Inv-loop μ-loop Inv-records μ-records
-loop-holds c = (omega arith, c .before .before .before .before .before .before .records .inv .1, refl, sym (and-true _))
+loop-holds c = (omega arith, c .before .before .before .before .before .records .inv .1, refl, c .is-ordered .ensures ∙ sym (and-true _))
 
 is-zeroed-requires : tie.Need-is-zeroed-requires Inv-loop μ-loop Inv-records μ-records
 is-zeroed-requires c κs = omega arith
@@ -81,7 +78,7 @@ records-less c = omega arith
 records-again : tie.Need-records-again Inv-loop μ-loop Inv-records μ-records
 records-again c =
     let l = c .before .before in
-    let r = l .before .before .before in
+    let r = l .before .before in
     let s = r .before .before .before .before in
     let e : l .loop .f ≡ FIELDS = omega arith in
     let zero = rw e at (l .loop .inv .2) in
@@ -104,7 +101,7 @@ returns-2 c =
 returns-3 : tie.Need-returns-3 Inv-loop μ-loop Inv-records μ-records
 returns-3 c =
     let l = c .before .before .before in
-    let r = l .before .before .before in
+    let r = l .before .before in
     let s = r .before .before .before .before in
     let stray = fails (c .before .is-zeroed .ensures) (c .if2 .taken) in
     let at = ap memberFault (sym (r .before .before .record-at .ensures)) ∙ unused-next _ (l .loop .f) (sym (r .before .code-fault .ensures) ∙ r .if1 .left) (omega arith) stray in
@@ -113,7 +110,7 @@ returns-3 c =
 returns-4 : tie.Need-returns-4 Inv-loop μ-loop Inv-records μ-records
 returns-4 c =
     let l = c .before .before in
-    let r = l .before .before .before in
+    let r = l .before .before in
     let s = r .before .before .before .before in
     let e : l .loop .f ≡ FIELDS = omega arith in
     let zero = rw e at (l .loop .inv .2) in
@@ -133,8 +130,7 @@ first-fault-spec =
     record-at-requires
     add-place
     code-fault-requires
-    element-copy-out-good
-    element-copy-out-good-2
+    is-ordered-requires
     loop-holds
     is-zeroed-requires
     is-within-requires
