@@ -83,6 +83,6 @@ module _ {v v' : Vehicle} (hv : Heavier v v') where
         (λ i l. passed-before (a i l) (a' (t .partner i) (t .inside i l)) (t .worn i l) (k i l) (every-passes v' ms' e (t .partner i) (t .inside i l))))
 
 -- the same place in both, members added at the end
-pub same-places : {ms ms' : List Member} → SamePlaces ms ms' → Matching ms ms'
+unfoldable pub same-places : {ms ms' : List Member} → SamePlaces ms ms' → Matching ms ms'
 same-places p =
     record { partner = λ i. i; inside = λ i l. omega (arith, p .longer); one-to-one = λ i k l h e. e; worn = p .worn }

@@ -252,6 +252,7 @@ covered {m} a v =
     }
 
 falls : (s s' : Session) (survey vehicle survey' vehicle' : List ℕ) → Holds s survey vehicle → Holds s' survey' vehicle' → SamePlaces (members s) (members s') → Heavier (s .vehicle) (s' .vehicle) → Falls s s'
+unfolding same-places
 falls s s' survey vehicle survey' vehicle' h h' p v =
     let a = held-members h in
     let a' = held-members h' in
@@ -259,7 +260,7 @@ falls s s' survey vehicle survey' vehicle' h h' p v =
     record {
       permitted = λ i l. permitted-falls v (a i l) (a' i (more i l)) (p .worn i l);
       vehicle-load = λ i l. vehicle-load-rises v (a i l) (a' i (more i l)) (p .worn i l);
-      figure = figure-falls v a a' (same-places p) (rw (members-counted (held-survey h)) (held-survey h .count .0));
+      figure = λ k. figure-falls v a a' (same-places p) k (rw (members-counted (held-survey h)) (held-survey h .count .0));
       member-verdict = λ i l. member-stays-refused v (a i l) (a' i (more i l)) (p .worn i l);
       bridge-verdict = bridge-stays-refused v a a' (same-places p);
     }
