@@ -2,13 +2,14 @@
 //! in both directions of travel.
 
 use crate::fraction::over;
+use crate::layout::CLOSE_STRINGER;
 use crate::reader::{Axle, Member, Vehicle};
 
 /// Base and apex of the influence line, in half centimetres.
 pub fn triangle(member: &Member) -> (usize, usize) {
     let (l, x) = (usize::from(member.l), usize::from(member.x));
     match member.kind {
-        1 => (2 * l, l),
+        1 | CLOSE_STRINGER => (2 * l, l),
         2 => (4 * x, 2 * x),
         _ => (2 * l, 2 * x),
     }

@@ -21,6 +21,17 @@ pub const S6: usize = 13;
 pub const PART_A: usize = 14;
 pub const WHOLE_B: usize = 15;
 
+/// Words of a closely spaced stringer that have a meaning of their own: its deck.
+pub const BOARDS: usize = FROM_SUPPORT;
+pub const BOARD_THICKNESS: usize = TRUSS_HEIGHT;
+pub const BOARD_WIDTH: usize = PART_A;
+pub const DECK_ROT: usize = WHOLE_B;
+
+/// The kinds are 1 to this one.
+pub const LAST_KIND: u16 = 7;
+/// The kind of closely spaced stringers.
+pub const CLOSE_STRINGER: u16 = 7;
+
 /// The words of one record.
 pub type Words = [u16; 16];
 
@@ -36,15 +47,41 @@ const Q: Limit = (DEAD_LOAD, 0, 10000);
 const A: Limit = (PART_A, 1, 1000);
 const B: Limit = (WHOLE_B, 1, 1000);
 
-/// The used numbers of a kind. Beside these limits x is below l but for kind 2, and A at most B.
+/// Spacing and deck of closely spaced stringers.
+const CLOSE: [Limit; 5] = [
+    (SPACING, 30, 100),
+    (BOARDS, 1, 10),
+    (BOARD_THICKNESS, 1, 20),
+    (BOARD_WIDTH, 1, 60),
+    (DECK_ROT, 0, 20),
+];
+
+/// The used numbers of a kind. Beside these limits x is below l in a truss, and A at most B in a
+/// joint.
 pub fn of_kind(kind: u16) -> &'static [Limit] {
     match kind {
         1 => &[L, D, Q],
         2 => &[L, PANEL, Q],
         3 => &[L, D, X, H, Q],
         4..=6 => &[L, D, X, H, Q, A, B],
+        CLOSE_STRINGER => &[L, CLOSE[0], CLOSE[1], CLOSE[2], Q, CLOSE[3], CLOSE[4]],
         _ => &[],
     }
+}
+
+/// Stringers and cross beams: they are bent, and lose no area.
+pub fn in_bending(kind: u16) -> bool {
+    matches!(kind, 1 | 2 | CLOSE_STRINGER)
+}
+
+/// Chords and joints of a truss: x is a distance from the support, below the span.
+pub fn in_truss(kind: u16) -> bool {
+    matches!(kind, 3..=6)
+}
+
+/// Joints: A is a part of B.
+pub fn is_joint(kind: u16) -> bool {
+    matches!(kind, 4..=6)
 }
 
 /// The used numbers of a section; the lost area of a sawn one is unused in bending.
@@ -55,7 +92,7 @@ pub fn of_section(kind: u16, code: u16) -> &'static [Limit] {
         [(S1, 1, 3), (S2, 1, 60), (S3, 1, 60), (S4, 1, 60), (S5, 0, 60), (S6, 1, 200)];
     match code {
         1 => &[(S1, 13, 39), (S2, 0, 60), (S3, 1, 3)],
-        2 if kind <= 2 => SAWN.split_at(5).0,
+        2 if in_bending(kind) => SAWN.split_at(5).0,
         2 => &SAWN,
         3 => &DOWELS,
         4 => &[(S1, 1, 10000), (S2, 0, 10000)],
@@ -71,6 +108,7 @@ pub fn sections(kind: u16) -> &'static [u16] {
         3 => &[2],
         4 => &[3],
         5 | 6 => &[4],
+        CLOSE_STRINGER => &[1, 2],
         _ => &[],
     }
 }

@@ -1,5 +1,5 @@
-//! Document 01 and request 1 of document 02 in plain Rust, written from the documents alone, and a
-//! generator of files.
+//! Document 01 and requests 1 and 2 of document 02 in plain Rust, written from the documents alone,
+//! and a generator of files.
 //!
 //! The proved library is tested against it. It tries every position of the vehicle, counts in
 //! fractions of 128 bits and is in no hurry; [`twin`] is the same judgement made fast, for the
@@ -15,6 +15,7 @@ pub mod lines;
 pub mod permitted;
 pub mod reader;
 pub mod section;
+pub mod spread;
 pub mod twin;
 
 pub use judge::{judge, Judged, Rated};

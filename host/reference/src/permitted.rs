@@ -1,8 +1,10 @@
-//! The permitted load of a member: formulas (13), (30), (27), (29), (33), (34) as they are printed.
+//! The permitted load of a member: formulas (13), (30), (27), (29), (33), (34), (10) as they are
+//! printed.
 
 use crate::fraction::{over, whole, Fraction};
 use crate::reader::{Member, Vehicle};
 use crate::section::{area, dowel_capacity, section_modulus};
+use crate::spread::{beta, WHOLE};
 
 /// Factors of a species in tenths: K for bending and tension, S for shear.
 pub(crate) const SPECIES: [(u16, u16); 8] =
@@ -72,6 +74,13 @@ fn plates(m: &Member) -> Fraction {
     whole(3800) * whole(m.h) * area(m)
 }
 
+/// Kind 7, formula (10), with the β that is kept.
+fn close_stringer(m: &Member, v: &Vehicle) -> Fraction {
+    let (w, k, n) = (section_modulus(m), factor_k(m), factor_n(v));
+    let (q, l, beta) = (over(m.q.into(), 100), whole(m.l), over(beta(m, v.track), WHOLE));
+    (whole(3072) * w * k - over(24, 10) * q * l * l) / (n * beta * l * l)
+}
+
 /// The exact value in kgf/m: the formula's result, in kgf/cm, times 100.
 pub fn exact(member: &Member, vehicle: &Vehicle) -> Fraction {
     let result = match member.kind {
@@ -80,7 +89,8 @@ pub fn exact(member: &Member, vehicle: &Vehicle) -> Fraction {
         3 => chord(member, vehicle),
         4 => joint(dowelled(member), member, vehicle),
         5 => joint(keyed(member), member, vehicle),
-        _ => joint(plates(member), member, vehicle),
+        6 => joint(plates(member), member, vehicle),
+        _ => close_stringer(member, vehicle),
     };
     result * whole(100)
 }

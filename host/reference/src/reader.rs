@@ -17,7 +17,8 @@ pub struct Refused {
     pub place: u64,
 }
 
-/// A member of the bridge by the document's letters.
+/// A member of the bridge by the document's letters. A closely spaced stringer has its deck in x
+/// (boards), h (their thickness), a (their width) and b (deck rot).
 #[derive(Clone, Copy, Debug)]
 pub struct Member {
     pub kind: u16,
@@ -81,7 +82,7 @@ fn header(bytes: &[u8], mark: &[u8; 3], size: usize, most: u8, each: usize) -> R
 /// The first fault of a record: 4, 5, 6, 8, 7.
 fn record_fault(w: &Words) -> Option<u64> {
     let (kind, code) = (w[KIND], w[SECTION]);
-    if !within(kind, 1, 6) {
+    if !within(kind, 1, LAST_KIND) {
         return Some(4);
     }
     if has_species(kind) && !within(w[SPECIES], 1, 8) {
@@ -95,8 +96,9 @@ fn record_fault(w: &Words) -> Option<u64> {
         return Some(8);
     }
     let outside = used(kind, code).any(|&(i, least, greatest)| !within(w[i], least, greatest));
-    let beyond_span = kind >= 3 && w[FROM_SUPPORT] >= w[SPAN];
-    if outside || beyond_span || w[PART_A] > w[WHOLE_B] {
+    let beyond_span = in_truss(kind) && w[FROM_SUPPORT] >= w[SPAN];
+    let above_whole = is_joint(kind) && w[PART_A] > w[WHOLE_B];
+    if outside || beyond_span || above_whole {
         return Some(7);
     }
     None

@@ -1,4 +1,5 @@
-//! Net sections: section modulus W in cm³, area F in cm², dowel capacity T in kgf.
+//! Net sections: section modulus W in cm³, moments of inertia I and J in cm⁴, area F in cm², dowel
+//! capacity T in kgf.
 
 use crate::crescent::crescent_modulus;
 use crate::fraction::{over, whole, Fraction};
@@ -40,6 +41,32 @@ pub fn section_modulus(member: &Member) -> Fraction {
             over(i128::from(s[4]) * b * h * h, 6)
         }
     }
+}
+
+/// "I is W times half the net height, taken for each tier and added": of one log the net height is
+/// its net diameter.
+fn log_inertia(net_diameter: u16) -> Fraction {
+    whole(log_modulus(net_diameter)) * over(net_diameter.into(), 2)
+}
+
+/// I of a closely spaced stringer, cm⁴: code 1, whose top tier is decayed and whose others are
+/// sound, or code 2.
+pub fn moment_of_inertia(member: &Member) -> Fraction {
+    let s = &member.s;
+    match member.code {
+        1 => {
+            let top = log_inertia(s[0].saturating_sub(2 * s[1]));
+            top + whole(s[2] - 1) * log_inertia(s[0])
+        }
+        _ => section_modulus(member) * over(net_piece(s).1, 2),
+    }
+}
+
+/// J of the deck over closely spaced stringers, cm⁴: "the boards' width × net thickness³ / 12,
+/// times count, net thickness being h − B".
+pub fn deck_inertia(member: &Member) -> Fraction {
+    let thickness = i128::from(member.h.saturating_sub(member.b));
+    over(i128::from(member.a) * thickness.pow(3), 12) * whole(member.x)
 }
 
 /// F of a section, code 2 or 4.

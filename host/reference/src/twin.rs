@@ -5,6 +5,7 @@
 use crate::crescent::crescent_modulus;
 use crate::influence::{offsets, triangle};
 use crate::judge::{bridge, Judged, Rated};
+use crate::layout::CLOSE_STRINGER;
 use crate::permitted::SPECIES;
 use crate::reader::{self, Axle, Member, Refused, Vehicle};
 use crate::section::log_modulus;
@@ -46,6 +47,55 @@ fn dowel_in_hundredths(m: &Member) -> u64 {
     terms[0].min(terms[1]).min(terms[2]).min(terms[3])
 }
 
+/// Twelve times I of a closely spaced stringer.
+fn inertia_in_twelfths(m: &Member) -> u64 {
+    let s = m.s.map(u64::from);
+    if m.code == 2 {
+        let (b, h) = (s[0].saturating_sub(s[2]), s[1].saturating_sub(s[3]));
+        return s[4] * b * h * h * h;
+    }
+    let log = |net: u16| 6 * u64::from(log_modulus(net)) * u64::from(net);
+    log(m.s[0].saturating_sub(2 * m.s[1])) + (s[2] - 1) * log(m.s[0])
+}
+
+/// k in ten-thousandths: thousandths first, as the whole product would leave 64 bits, then the next
+/// digit, then what is left is rounded half up.
+fn stiffness_number(m: &Member) -> u64 {
+    let [d, l, width, count] = [m.d, m.l, m.a, m.x].map(u64::from);
+    let thickness = u64::from(m.h.saturating_sub(m.b));
+    let deck = l * l * l * (width * thickness * thickness * thickness * count);
+    if deck == 0 {
+        return 100_000;
+    }
+    let stringer = 1000 * (8 * d * d * d * inertia_in_twelfths(m));
+    let rest = 10 * (stringer % deck);
+    let rounded = rest / deck + u64::from(2 * (rest % deck) >= deck);
+    (10 * (stringer / deck) + rounded).min(100_000)
+}
+
+/// The shares of a stringer and of those one and two places off, and their divisor.
+fn shares(k: u64) -> ([u64; 3], u64) {
+    if 3 * k >= 10_000 {
+        return ([10_000 + 2 * k, 10_000, 0], 30_000 + 2 * k);
+    }
+    let (linear, square) = (10_000 * k, 7 * k * k);
+    let own = 100_000_000 + 18 * linear + square;
+    let parts = [own, 100_000_000 + 11 * linear, 100_000_000 - 3 * linear];
+    (parts, 500_000_000 + 34 * linear + square)
+}
+
+/// β in ten-thousandths, over the stringers that both wheels' shares reach.
+fn beta(m: &Member, track: u16) -> u64 {
+    let (parts, divisor) = shares(stiffness_number(m));
+    let (d, r) = (u64::from(m.d), u64::from(track % m.d));
+    // Places are counted from two left of the first wheel, so that none is below 0.
+    let (first, second) = (2, 2 + usize::from(track / m.d));
+    let part = |place: usize, wheel: usize| parts.get(place.abs_diff(wheel)).copied().unwrap_or(0);
+    let influence = |j| d * part(j, first) + (d - r) * part(j, second) + r * part(j, second + 1);
+    let greatest = (0..=second + 3).map(influence).max().unwrap_or(0);
+    (10_000 * greatest).div_ceil(divisor * d)
+}
+
 /// `number × factor / divisor` rounded down, where the product alone may leave 64 bits.
 fn scaled(number: u64, factor: u64, divisor: u64) -> u64 {
     number / divisor * factor + number % divisor * factor / divisor
@@ -68,6 +118,10 @@ fn permitted_load(m: &Member, vehicle: &Vehicle) -> u64 {
     if m.kind == 2 {
         let net = (12_800 * modulus_in_thirtieths(m) * k).saturating_sub(36 * q * l * l);
         return net / (3 * n * x * l);
+    }
+    if m.kind == CLOSE_STRINGER {
+        let net = (10_240 * modulus_in_thirtieths(m) * k).saturating_sub(24 * q * l * l);
+        return scaled(net, 10_000, n * beta(m, vehicle.track) * l * l);
     }
     let (a, b) = if m.kind == 3 { (1, 1) } else { (m.a.into(), m.b.into()) };
     let front = match m.kind {

@@ -34,8 +34,8 @@ fn a_worse_survey_has_deeper_crescents() {
     let mut random = Random::new(SEED);
     let members = survey(&mut random, Spread::Wide, 64);
     let (mut deeper, mut within) = (0, 0);
-    for round in 0..200 {
-        let worse = worse_survey(&mut random, &members, 0);
+    for round in 0..600 {
+        let worse = worse_survey(&mut random, &members, Wear::Any, 0);
         for (one, other) in members.iter().zip(&worse).filter(|(one, _)| is_crescent(one)) {
             let mut alike = *other;
             [alike[DEAD_LOAD], alike[S2]] = [one[DEAD_LOAD], one[S2]];

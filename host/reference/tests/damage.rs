@@ -31,8 +31,9 @@ fn all_numbers_are_tried_at_all_places() {
     };
     for place in 1..=64 {
         assert!(tried(4, place) && tried(6, place) && tried(7, place), "place {place}");
-        assert_eq!(tried(5, place), place % 6 != 0, "place {place} is of kind 6 or not");
-        assert_eq!(tried(8, place), place % 6 != 4, "place {place} is of kind 4 or not");
+        let kind = (place - 1) % 7 + 1;
+        assert_eq!(tried(5, place), kind != 6, "place {place} is of kind 6 or not");
+        assert_eq!(tried(8, place), kind != 4, "place {place} is of kind 4 or not");
     }
     let vehicles = damaged_vehicles(&mut Random::new(SEED));
     for place in 0..=16 {

@@ -3,7 +3,7 @@
 use crate::layout::*;
 
 /// Every record of this kind and section with each used number at its least or its greatest; the
-/// species go round. Where A would be above B the record is not sound.
+/// species go round. Where A of a joint would be above B the record is not sound.
 fn corners_of(kind: u16, code: u16) -> Vec<Words> {
     let limits: Vec<Limit> = used(kind, code).copied().collect();
     let mut all = Vec::new();
@@ -16,7 +16,7 @@ fn corners_of(kind: u16, code: u16) -> Vec<Words> {
         for (i, &(word, least, greatest)) in limits.iter().enumerate() {
             words[word] = if choice >> i & 1 == 0 { least } else { greatest };
         }
-        if kind != 2 {
+        if in_truss(kind) {
             words[FROM_SUPPORT] = words[FROM_SUPPORT].min(words[SPAN] - 1);
         }
         all.push(words);
@@ -26,6 +26,7 @@ fn corners_of(kind: u16, code: u16) -> Vec<Words> {
 
 /// The corners of every kind and section.
 pub fn corners() -> Vec<Words> {
-    let pairs = (1..=6).flat_map(|kind| sections(kind).iter().map(move |code| (kind, *code)));
+    let pairs =
+        (1..=LAST_KIND).flat_map(|kind| sections(kind).iter().map(move |code| (kind, *code)));
     pairs.flat_map(|(kind, code)| corners_of(kind, code)).collect()
 }

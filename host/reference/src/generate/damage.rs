@@ -65,8 +65,8 @@ fn break_range(random: &mut Random, words: &mut Words) {
     }
     let &(word, least, greatest) = random.pick(&limits);
     words[word] = match word {
-        FROM_SUPPORT if kind != 2 => outside(random, 1, words[SPAN].saturating_sub(1)),
-        PART_A if random.once_in(2) => words[WHOLE_B].saturating_add(1),
+        FROM_SUPPORT if in_truss(kind) => outside(random, 1, words[SPAN].saturating_sub(1)),
+        PART_A if is_joint(kind) && random.once_in(2) => words[WHOLE_B].saturating_add(1),
         _ => outside(random, least, greatest),
     };
 }
@@ -95,7 +95,7 @@ fn unsuited_section(random: &mut Random, kind: u16) -> u16 {
 pub fn damage_survey(random: &mut Random, words: &mut Words, damage: SurveyDamage) -> bool {
     let kind = words[KIND];
     match damage {
-        SurveyDamage::Kind => words[KIND] = outside(random, 1, 6),
+        SurveyDamage::Kind => words[KIND] = outside(random, 1, LAST_KIND),
         SurveyDamage::Species if !has_species(kind) => return false,
         SurveyDamage::Species => words[SPECIES] = outside(random, 1, 8),
         SurveyDamage::Section => words[SECTION] = unsuited_section(random, kind),

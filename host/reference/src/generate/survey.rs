@@ -13,15 +13,25 @@ pub enum Spread {
     Usual,
 }
 
-/// Numbers that lower a member's load: rot, lost area and dead load.
-pub(super) fn lowers(words: &Words, word: usize) -> bool {
+/// Rot, that of a deck included.
+pub fn is_rot(words: &Words, word: usize) -> bool {
     match words[SECTION] {
-        _ if word == DEAD_LOAD => true,
+        _ if words[KIND] == CLOSE_STRINGER && word == DECK_ROT => true,
         1 | 5 => word == S2,
-        2 => word == S3 || word == S4 || word == S6,
+        2 => word == S3 || word == S4,
         3 => word == S5,
-        _ => word == S2,
+        _ => false,
     }
+}
+
+/// Numbers that grow as a member wears: rot, lost area and dead load.
+pub(super) fn wears(words: &Words, word: usize) -> bool {
+    let lost_area = match words[SECTION] {
+        2 => word == S6,
+        4 => word == S2,
+        _ => false,
+    };
+    lost_area || word == DEAD_LOAD || is_rot(words, word)
 }
 
 /// The depth of a crescent: often where its row begins or ends, where all rows end, or beyond.
@@ -34,6 +44,15 @@ fn depth(random: &mut Random, diameter: u16) -> u16 {
     }
 }
 
+/// Deck rot: often such that nothing, or a last centimetre, is left of the boards.
+fn deck_rot(random: &mut Random, thickness: u16) -> u16 {
+    if random.once_in(2) {
+        *random.pick(&[0, 1, thickness - 1, thickness, (thickness + 1).min(20), 20])
+    } else {
+        random.between(0, thickness)
+    }
+}
+
 /// The greatest span, cm, of a bridge in use: beams, then trusses.
 const USUAL_SPAN: [u16; 2] = [900, 3000];
 
@@ -42,12 +61,15 @@ fn number(random: &mut Random, spread: Spread, words: &Words, limit: Limit) -> u
     if spread == Spread::Wide {
         return match (words[SECTION], word) {
             (5, S2) => depth(random, words[S1]),
+            _ if words[KIND] == CLOSE_STRINGER && word == DECK_ROT => {
+                deck_rot(random, words[BOARD_THICKNESS])
+            }
             _ => random.edgy(least, greatest),
         };
     }
     let greatest = match word {
-        SPAN => USUAL_SPAN[usize::from(words[KIND] > 2)],
-        _ if lowers(words, word) => least + (greatest - least) / 20,
+        SPAN => USUAL_SPAN[usize::from(in_truss(words[KIND]))],
+        _ if wears(words, word) => least + (greatest - least) / 20,
         _ => greatest,
     };
     random.between(least, greatest)
@@ -63,12 +85,12 @@ fn member(random: &mut Random, spread: Spread, kind: u16) -> Words {
     }
     for &(word, least, greatest) in used(kind, words[SECTION]) {
         let greatest = match word {
-            FROM_SUPPORT if kind != 2 => words[SPAN] - 1,
+            FROM_SUPPORT if in_truss(kind) => words[SPAN] - 1,
             _ => greatest,
         };
         words[word] = number(random, spread, &words, (word, least, greatest));
     }
-    if words[PART_A] > words[WHOLE_B] {
+    if is_joint(kind) && words[PART_A] > words[WHOLE_B] {
         words.swap(PART_A, WHOLE_B);
     }
     words
@@ -78,7 +100,7 @@ fn member(random: &mut Random, spread: Spread, kind: u16) -> Words {
 pub fn survey(random: &mut Random, spread: Spread, count: usize) -> Vec<Words> {
     let mut members = Vec::with_capacity(count);
     for _ in 0..count {
-        let kind = random.between(1, 6);
+        let kind = random.between(1, LAST_KIND);
         members.push(member(random, spread, kind));
     }
     members
@@ -86,7 +108,7 @@ pub fn survey(random: &mut Random, spread: Spread, count: usize) -> Vec<Words> {
 
 /// 64 members of all kinds in turn.
 pub fn full_survey(random: &mut Random, spread: Spread) -> Vec<Words> {
-    (0..64).map(|i| member(random, spread, i % 6 + 1)).collect()
+    (0..64).map(|i| member(random, spread, i % LAST_KIND + 1)).collect()
 }
 
 /// The file of these members.

@@ -1,9 +1,9 @@
 //! The second file of a pair as demand 3 has it: deeper rot, more lost area, more dead load,
 //! heavier axles, members and axles added; all else the same.
 
-use super::survey::{lowers, survey};
+use super::survey::{is_rot, survey, wears};
 use super::{vehicle, Random, Spread, VehicleWords};
-use crate::layout::{used, Words, KIND, SECTION};
+use crate::layout::{used, Words, CLOSE_STRINGER, KIND, SECTION};
 
 /// A number that stays, grows by 1 or grows as far as its range goes.
 fn grown(random: &mut Random, value: u16, greatest: u16) -> u16 {
@@ -14,12 +14,28 @@ fn grown(random: &mut Random, value: u16, greatest: u16) -> u16 {
     }
 }
 
+/// How the shared members of two surveys wear.
+#[derive(Clone, Copy, PartialEq, Eq)]
+pub enum Wear {
+    /// Every rot, lost area and dead load may grow. No vehicle load falls.
+    Any,
+    /// "A kind 7 record has the same rot in both surveys, deck rot included." No permitted load
+    /// rises either.
+    SameSpread,
+}
+
+/// Does this number of a shared member grow?
+fn grows(wear: Wear, words: &Words, word: usize) -> bool {
+    let keeps_rot = wear == Wear::SameSpread && words[KIND] == CLOSE_STRINGER;
+    wears(words, word) && !(keeps_rot && is_rot(words, word))
+}
+
 /// The same members, none sounder or lighter, and up to `more` others behind them.
-pub fn worse_survey(random: &mut Random, members: &[Words], more: usize) -> Vec<Words> {
+pub fn worse_survey(random: &mut Random, members: &[Words], wear: Wear, more: usize) -> Vec<Words> {
     let mut worse = members.to_vec();
     for words in &mut worse {
         for &(word, _, greatest) in used(words[KIND], words[SECTION]) {
-            if lowers(words, word) {
+            if grows(wear, words, word) {
                 words[word] = grown(random, words[word], greatest);
             }
         }
