@@ -42,6 +42,31 @@ fn the_twin_agrees_on_every_crescent() {
     }
 }
 
+/// A closely spaced log stringer over boards 20 wide of this thickness.
+fn close_stringer(spacing: u16, thickness: u16) -> Words {
+    let mut words: Words = [0; 16];
+    [words[KIND], words[SPECIES], words[SPAN], words[SPACING]] = [7, 1, 300, spacing];
+    [words[SECTION], words[S1], words[S3]] = [1, 28, 1];
+    [words[BOARDS], words[BOARD_THICKNESS], words[BOARD_WIDTH]] = [2, thickness, 20];
+    words
+}
+
+/// Wheels at every distance over stringers at every spacing, on thin, usual and thick boards.
+#[test]
+fn the_twin_agrees_on_every_track_and_spacing() {
+    let members: Vec<Words> =
+        [4, 9, 20].iter().flat_map(|&h| (30..=100).map(move |d| close_stringer(d, h))).collect();
+    for track in 100..=300 {
+        let vehicle = vehicle_bytes(&VehicleWords { class: 0, track, axles: vec![[1, 0]] });
+        for members in members.chunks(64) {
+            let survey = survey_bytes(members);
+            let (fast, slow) = (twin::judge(&survey, &vehicle), judge(&survey, &vehicle));
+            assert!(slow.is_ok(), "track {track}: {slow:?}");
+            assert_eq!(fast, slow, "track {track}");
+        }
+    }
+}
+
 #[test]
 fn the_twin_refuses_alike() {
     const SEED: u64 = 0x7718;
