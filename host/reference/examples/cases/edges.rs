@@ -6,9 +6,9 @@ use crate::script::Script;
 use reference::generate::{at_the_limit, Random, VehicleWords};
 use reference::layout::*;
 
-/// A record whose x is inside the span and whose A is at most B.
+/// A record whose x is inside the span, where it is a distance from the support.
 fn sound(mut words: Words) -> Words {
-    if words[KIND] > 2 {
+    if in_truss(words[KIND]) {
         words[FROM_SUPPORT] = words[FROM_SUPPORT].min(words[SPAN] - 1);
     }
     words
@@ -21,8 +21,8 @@ fn edges_of(kind: u16, code: u16) -> Vec<Words> {
     let mut all = Vec::new();
     for &(word, low, high) in used(kind, code) {
         let partner = match word {
-            PART_A => (WHOLE_B, 1000),
-            WHOLE_B => (PART_A, 1),
+            PART_A if is_joint(kind) => (WHOLE_B, 1000),
+            WHOLE_B if is_joint(kind) => (PART_A, 1),
             _ => (word, low),
         };
         all.push(sound(with(usual, &[partner, (word, low)])));

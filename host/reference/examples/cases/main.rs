@@ -2,6 +2,7 @@
 //!
 //!     cargo run --release -p reference --example cases -- ../crates/cases
 
+mod close_stringers;
 mod crescents;
 mod document;
 mod edges;
@@ -23,6 +24,7 @@ fn script() -> Script {
     vehicle_faults::cases(&mut script);
     edges::cases(&mut script);
     crescents::cases(&mut script);
+    close_stringers::cases(&mut script);
     script
 }
 

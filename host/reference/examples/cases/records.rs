@@ -6,11 +6,16 @@ use reference::layout::*;
 
 /// Every kind with each of its sections.
 pub fn kinds() -> impl Iterator<Item = (u16, u16)> {
-    (1..=6).flat_map(|kind| sections(kind).iter().map(move |&code| (kind, code)))
+    (1..=LAST_KIND).flat_map(|kind| sections(kind).iter().map(move |&code| (kind, code)))
 }
 
-fn usual_number(code: u16, word: usize) -> u16 {
+fn usual_number(kind: u16, code: u16, word: usize) -> u16 {
     match (word, code) {
+        (SPACING, _) if kind == CLOSE_STRINGER => 60,
+        (BOARDS, _) if kind == CLOSE_STRINGER => 2,
+        (BOARD_THICKNESS, _) if kind == CLOSE_STRINGER => 10,
+        (BOARD_WIDTH, _) if kind == CLOSE_STRINGER => 20,
+        (DECK_ROT, _) if kind == CLOSE_STRINGER => 1,
         (SPAN, _) => 600,
         (SPACING, _) => 150,
         (FROM_SUPPORT | DEAD_LOAD, _) => 200,
@@ -30,7 +35,7 @@ pub fn usual(kind: u16, code: u16) -> Words {
     let mut words: Words = [0; 16];
     [words[KIND], words[SECTION], words[SPECIES]] = [kind, code, u16::from(has_species(kind))];
     for &(word, _, _) in used(kind, code) {
-        words[word] = usual_number(code, word);
+        words[word] = usual_number(kind, code, word);
     }
     words
 }

@@ -47,7 +47,7 @@ fn refused_surveys() -> Vec<Vec<u8>> {
         sound[..sound.len() - 1].to_vec(),
         with_byte(&sound, 2, b'V'),
         with_byte(&sound, 5, 65),
-        changed(&[(KIND, 7)]),
+        changed(&[(KIND, 8)]),
         changed(&[(SPECIES, 9)]),
         changed(&[(SECTION, 4)]),
         changed(&[(S5, 61)]),

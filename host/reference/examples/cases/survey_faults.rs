@@ -50,7 +50,7 @@ impl Turn<'_> {
 /// Kind, species and section of a record.
 fn codes(turn: &mut Turn, kind: u16, code: u16) {
     let sound = usual(kind, code);
-    for wrong in [0, 7, 256 + kind] {
+    for wrong in [0, LAST_KIND + 1, 256 + kind] {
         turn.refuse(&format!("kind {wrong}"), with(sound, &[(KIND, wrong)]));
     }
     for species in [0, 9, 257] {
@@ -75,14 +75,17 @@ fn words(turn: &mut Turn, kind: u16, code: u16) {
         }
     }
     for &(word, least, greatest) in used(kind, code) {
-        let greatest = if kind > 2 && word == FROM_SUPPORT { sound[SPAN] - 1 } else { greatest };
+        let greatest = match word {
+            FROM_SUPPORT if in_truss(kind) => sound[SPAN] - 1,
+            _ => greatest,
+        };
         let values = [least.checked_sub(1), Some(greatest + 1), Some(u16::MAX)];
         for value in values.into_iter().flatten() {
             let title = format!("kind {kind} section {code} word {word} is {value}");
             turn.refuse(&title, with(sound, &[(word, value)]));
         }
     }
-    if kind > 3 {
+    if is_joint(kind) {
         let title = format!("kind {kind} section {code} A above B");
         turn.refuse(&title, with(sound, &[(PART_A, 5), (WHOLE_B, 4)]));
     }
