@@ -59,7 +59,7 @@ impl Refusal {
                 return format!("the species is not 1 to {last}");
             }
             (6, _) => "the section code does not suit the kind",
-            (7, Which::Survey) => "a number is outside its range, or A is above B",
+            (7, Which::Survey) => "a number is outside its range, or A of a joint is above B",
             (7, Which::Vehicle) if self.place == 0 => "the class or the track is outside its range",
             (7, Which::Vehicle) => {
                 "the weight or the distance is outside its range; the first axle's distance is 0"

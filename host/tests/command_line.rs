@@ -121,6 +121,24 @@ fn the_field_of_a_crescent_at_fault_is_named() {
 }
 
 #[test]
+fn the_field_of_a_close_stringer_at_fault_is_named() {
+    let folder = Folder::new("close-stringers");
+    let (d, section, s4, b) = (3, 7, 11, 15);
+    for (word, value, words) in [
+        (section, 5, "number 6 at member 1: section: 5 is not one of: 1 log, 2 sawn"),
+        (d, 101, "number 7 at member 1: spacing (d): 101 is outside 30 to 100 cm"),
+        (b, 21, "number 7 at member 1: deck rot (B): 21 is outside 0 to 20 cm"),
+        (s4, 1, "number 8 at member 1: s4: 1 must be 0: the section 'log' does not use it"),
+    ] {
+        let mut survey = sample("close-stringers.tbr");
+        survey[6 + 2 * word] = value;
+        let (status, out, error) = run(&["show", &folder.file("wrong.tbr", &survey)]);
+        assert_eq!((status, out.as_str()), (2, ""));
+        assert!(error.contains(&format!("wrong.tbr: survey refused, {words}\n")), "{error}");
+    }
+}
+
+#[test]
 fn files_in_the_wrong_order_get_a_hint() {
     let order = "the order is: tbr judge SURVEY VEHICLE..\n";
     for (survey, vehicle, first) in [
@@ -243,6 +261,12 @@ case-a.tbr: survey of 1 member
     let (status, text, _) = run(&["show", "crescent.tbr"]);
     let section = "\n     section crescent: diameter 28 cm, depth 5 cm, tiers 2\n";
     assert!(status == 0 && text.contains(section), "{text}");
+    let (status, text, _) = run(&["show", "close-stringers.tbr"]);
+    let member =
+        "\n  2  close stringer: species pine, span 500 cm, spacing 60 cm, boards 2, board \
+                  thickness 10 cm, board width 20 cm, deck rot 1 cm, dead load 97 kgf/m\n     \
+                  section log: diameter 22 cm, rot 2 cm, tiers 2\n";
+    assert!(status == 0 && text.contains(member), "{text}");
     let (status, text, _) = run(&["show", "lorry.tbv"]);
     let expected = "\
 lorry.tbv: vehicle of 2 axles
@@ -255,7 +279,9 @@ lorry.tbv: vehicle of 2 axles
 
 #[test]
 fn make_goes_there_and_back() {
-    for (survey, members) in [("forest-road.tbr", 7), ("crescent.tbr", 3)] {
+    for (survey, members) in
+        [("forest-road.tbr", 7), ("crescent.tbr", 3), ("close-stringers.tbr", 3)]
+    {
         let folder = Folder::new("make");
         let (text, file) = (folder.path("bridge.txt"), folder.path("bridge.tbr"));
         assert_eq!(run(&["make", "--back", survey, &text]).0, 0);

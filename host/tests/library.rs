@@ -86,7 +86,7 @@ fn each_kind_and_section_alone() {
         assert_eq!(library(&survey, &vehicle), expected(&survey, &vehicle), "TBR_SEED={seed}, {i}");
         *seen.entry((members[0][0], members[0][7])).or_default() += 1;
     }
-    assert!(seen.len() == 10 && seen.values().all(|&times| times > 100), "{seen:?}");
+    assert!(seen.len() == 12 && seen.values().all(|&times| times > 100), "{seen:?}");
 }
 
 /// All used numbers at the edges of their ranges, in every choice of edges: the largest products

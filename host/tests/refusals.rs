@@ -46,7 +46,7 @@ fn each_number_of_a_survey() {
     assert_eq!(survey_refusal(VEHICLE), (2, 0));
     assert_eq!(survey_refusal(&changed(SURVEY, 5, 65)), (3, 0));
     let [kind, species, section, rot, unused] = [6, 8, 20, 24, 14];
-    assert_eq!(survey_refusal(&changed(SURVEY, kind, 7)), (4, 1));
+    assert_eq!(survey_refusal(&changed(SURVEY, kind, 8)), (4, 1));
     assert_eq!(survey_refusal(&changed(SURVEY, species, 9)), (5, 1));
     assert_eq!(survey_refusal(&changed(SURVEY, section, 3)), (6, 1));
     assert_eq!(survey_refusal(&changed(SURVEY, rot, 61)), (7, 1));
@@ -67,7 +67,7 @@ fn each_number_of_a_vehicle() {
 
 #[test]
 fn the_surveys_refusal_comes_first() {
-    let refusal = judge(&changed(SURVEY, 6, 7), &[]).unwrap_err();
+    let refusal = judge(&changed(SURVEY, 6, 8), &[]).unwrap_err();
     assert_eq!(refusal, Refusal { file: Which::Survey, number: 4, place: 1 });
 }
 
@@ -93,7 +93,7 @@ fn all_numbers_have_words_of_their_own() {
         assert_eq!(words.len(), 9, "{words:?}");
     }
     let refusal = Refusal { file: Which::Survey, number: 4, place: 3 };
-    assert_eq!(refusal.to_string(), "survey refused, number 4 at member 3: the kind is not 1 to 6");
+    assert_eq!(refusal.to_string(), "survey refused, number 4 at member 3: the kind is not 1 to 7");
     let refusal = Refusal { file: Which::Vehicle, number: 7, place: 0 };
     let words = "vehicle refused, number 7: the class or the track is outside its range";
     assert_eq!(refusal.to_string(), words);
@@ -150,7 +150,7 @@ fn fields_of_a_survey_at_fault() {
             0,
             9,
             "kind: 9 is not one of: 1 stringer, 2 cross beam, 3 chord, 4 dowelled joint, \
-                   5 keyed joint, 6 steel plates",
+                   5 keyed joint, 6 steel plates, 7 close stringer",
         ),
         (
             1,
@@ -198,6 +198,36 @@ fn fields_of_a_crescent_at_fault() {
     ] {
         assert_eq!(survey_words(&with_word(CRESCENT, 2, word, value)), [words], "{word}");
     }
+}
+
+const CLOSE_STRINGERS: &[u8] = include_bytes!("../../samples/close-stringers.tbr");
+
+/// The names and limits of the kind itself: the same words are others in a stringer or a joint.
+#[test]
+fn fields_of_a_close_stringer_at_fault() {
+    let (log, sawn) = (1, 3);
+    let [kind, d, x, h, section, s4, s6, a, b] = [0, 3, 4, 5, 7, 11, 13, 14, 15];
+    for (place, word, value, words) in [
+        (log, section, 5, "section: 5 is not one of: 1 log, 2 sawn"),
+        (log, section, 4, "section: 4 is not one of: 1 log, 2 sawn"),
+        (log, d, 29, "spacing (d): 29 is outside 30 to 100 cm"),
+        (log, d, 101, "spacing (d): 101 is outside 30 to 100 cm"),
+        (log, x, 0, "boards (x): 0 is outside 1 to 10"),
+        (log, x, 11, "boards (x): 11 is outside 1 to 10"),
+        (log, h, 0, "board thickness (h): 0 is outside 1 to 20 cm"),
+        (log, h, 21, "board thickness (h): 21 is outside 1 to 20 cm"),
+        (sawn, a, 0, "board width (A): 0 is outside 1 to 60 cm"),
+        (sawn, a, 61, "board width (A): 61 is outside 1 to 60 cm"),
+        (sawn, b, 21, "deck rot (B): 21 is outside 0 to 20 cm"),
+        (log, s4, 1, "s4: 1 must be 0: the section 'log' does not use it"),
+        (sawn, s6, 1, "lost area (s6): 1 must be 0: a beam in bending has no lost area"),
+    ] {
+        let bytes = with_word(CLOSE_STRINGERS, place, word, value);
+        assert_eq!(survey_words(&bytes), [words], "{place} {word}");
+    }
+    let stringer = ["x: 2", "h: 10", "A: 20", "B: 1"];
+    let unused = |number| format!("{number} must be 0: the kind 'stringer' does not use it");
+    assert_eq!(survey_words(&with_word(CLOSE_STRINGERS, log, kind, 1)), stringer.map(unused));
 }
 
 /// All fields of the record that the number is about.

@@ -10,7 +10,8 @@ fn sample(name: &str) -> Vec<u8> {
 
 #[test]
 fn text_forms_and_files_agree() {
-    for name in ["case-a.tbr", "case-l.tbv", "crescent.tbr", "forest-road.tbr", "lorry.tbv"] {
+    let surveys = ["case-a.tbr", "close-stringers.tbr", "crescent.tbr", "forest-road.tbr"];
+    for name in surveys.into_iter().chain(["case-l.tbv", "lorry.tbv"]) {
         let stem = name.split('.').next().unwrap();
         let made = form::read(&sample(&format!("{stem}.txt")));
         let made = made.unwrap_or_else(|faults| panic!("{stem}.txt: {faults:?}"));
@@ -37,7 +38,21 @@ fn the_bank_span_bears_the_lorry() {
     assert_eq!((judgement.figure, judgement.governing, judgement.passes), (1720, 1, false));
 }
 
-/// All six kinds; the governing member is not the one with the least margin.
+/// Close stringers under a sound deck bear the lorry; where three centimetres more of the boards are
+/// rotten, the deck spreads the wheels less and the bridge is refused.
+#[test]
+fn the_forest_bridge_bears_the_lorry() {
+    let (survey, vehicle) = (sample("close-stringers.tbr"), sample("lorry.tbv"));
+    let judgement = judge(&survey, &vehicle).unwrap();
+    assert_eq!((judgement.figure, judgement.governing, judgement.passes), (3394, 3, true));
+    let mut members = tbr::file::members(&survey);
+    members.iter_mut().for_each(|words| words[15] = 4);
+    let rotten = tbr::file::Contents::Survey(members).bytes().unwrap();
+    let judgement = judge(&rotten, &vehicle).unwrap();
+    assert_eq!((judgement.figure, judgement.governing, judgement.passes), (2531, 3, false));
+}
+
+/// The kinds 1 to 6; the governing member is not the one with the least margin.
 #[test]
 fn the_forest_road_bridge_bears_the_lorry() {
     let survey = sample("forest-road.tbr");

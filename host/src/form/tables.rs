@@ -89,8 +89,16 @@ const JOINT_PART: Field =
     number("joint part", 14, 1, 1000, "").within(Within::AtMost(&CHORD_WHOLE));
 const CHORD_WHOLE: Field = number("chord whole", 15, 1, 1000, "");
 
+/// The stringers under a deck that spreads a wheel's load, and the boards of the deck.
+const CLOSE_SPACING: Field = number("spacing", 3, 30, 100, "cm");
+const BOARDS: Field = number("boards", 4, 1, 10, "");
+const BOARD_THICKNESS: Field = number("board thickness", 5, 1, 20, "cm");
+const BOARD_WIDTH: Field = number("board width", 14, 1, 60, "cm");
+const DECK_ROT: Field = number("deck rot", 15, 0, 20, "cm");
+
 const IN_BENDING: Field =
     words("section", SECTION_WORD, &[("log", 1), ("sawn", 2), ("crescent", 5)]);
+const OF_CLOSE_STRINGER: Field = words("section", SECTION_WORD, &[("log", 1), ("sawn", 2)]);
 const OF_CHORD: Field = words("section", SECTION_WORD, &[("sawn", 2)]);
 const OF_DOWELS: Field = words("section", SECTION_WORD, &[("dowels", 3)]);
 const OF_AREA: Field = words("section", SECTION_WORD, &[("area", 4)]);
@@ -112,8 +120,8 @@ const fn joint(section: Field) -> [Field; 9] {
 const JOINT_IN_DOWELS: [Field; 9] = joint(OF_DOWELS);
 const JOINT_IN_AREA: [Field; 9] = joint(OF_AREA);
 
-/// The six kinds by number.
-pub static KINDS: [Kind; 6] = [
+/// The seven kinds by number.
+pub static KINDS: [Kind; 7] = [
     Kind {
         name: "stringer",
         code: 1,
@@ -135,6 +143,22 @@ pub static KINDS: [Kind; 6] = [
     Kind { name: "dowelled joint", code: 4, in_bending: false, fields: &JOINT_IN_DOWELS },
     Kind { name: "keyed joint", code: 5, in_bending: false, fields: &JOINT_IN_AREA },
     Kind { name: "steel plates", code: 6, in_bending: false, fields: JOINT_IN_AREA.split_at(1).1 },
+    Kind {
+        name: "close stringer",
+        code: 7,
+        in_bending: true,
+        fields: &[
+            SPECIES,
+            SPAN,
+            CLOSE_SPACING,
+            BOARDS,
+            BOARD_THICKNESS,
+            BOARD_WIDTH,
+            DECK_ROT,
+            DEAD_LOAD,
+            OF_CLOSE_STRINGER,
+        ],
+    },
 ];
 
 const TIERS: Field = number("tiers", 10, 1, 3, "");
