@@ -107,7 +107,7 @@ fn vehicle_loads_never_fall_whatever_wears() {
             heavier += u32::from(words[KIND] == CLOSE_STRINGER && other.vehicle > one.vehicle);
         }
     }
-    assert!(rose > 0 && heavier > 1000, "{rose} permitted loads rose, {heavier} vehicle loads");
+    assert!(rose > 10 && heavier > 1000, "{rose} permitted loads rose, {heavier} vehicle loads");
 }
 
 /// The premise is needed: a deck with rot 9 and the same with rot 10, and the second bears more.
