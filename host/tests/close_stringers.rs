@@ -1,6 +1,6 @@
-//! Closely spaced stringers, kind 7, through the exported library: formula (10) by hand, the stiffness
-//! number at its edges, the spread over three and five stringers, wheels near and far apart, and
-//! every refusal.
+//! Closely spaced stringers, kind 7, through the exported library: formula (10) by hand, the
+//! stiffness number at its edges, the spread over three and five stringers, wheels near and far
+//! apart, and every refusal.
 
 mod common;
 
@@ -65,10 +65,11 @@ fn agree(members: &[Words], class: u8, track: u16) {
     }
 }
 
-/// A piece 12 by 20 has W = 800, I = 800 × 10 = 8000. A board 12 wide with 2 cm left of 5 has J = 12 ×
-/// 2³ / 12 = 8. l = 1000, d = 50: k = 8 × 50³ × 8000 / (1000³ × 8) = 1, and the shares are 3/5, 1/5. E =
-/// 190 = 3 × 50 + 40: under the first wheel 3/5 and nothing of the other, so β = 0.6. q = 10 kgf/m is
-/// 0.1 kgf/cm: (3072 × 800 − 2.4 × 0.1 × 1000²) / (1.4 × 0.6 × 1000²) × 100 = 264, nothing over.
+/// A piece 12 by 20 has W = 800, I = 800 × 10 = 8000. A board 12 wide with 2 cm left of 5 has J =
+/// 12 × 2³ / 12 = 8. l = 1000, d = 50: k = 8 × 50³ × 8000 / (1000³ × 8) = 1, and the shares are
+/// 3/5, 1/5. E = 190 = 3 × 50 + 40: under the first wheel 3/5 and nothing of the other, so β = 0.6.
+/// q = 10 kgf/m is 0.1 kgf/cm: (3072 × 800 − 2.4 × 0.1 × 1000²) / (1.4 × 0.6 × 1000²) × 100 = 264,
+/// nothing over.
 #[test]
 fn three_stringers_by_hand() {
     let words = of_piece(close_stringer(1000, 50, [1, 5, 12, 3]), [12, 20]);
@@ -76,21 +77,23 @@ fn three_stringers_by_hand() {
     assert_eq!(loads, [266, 264, 261]);
 }
 
-/// A piece 10 by 20 has I = 10 × 20³ / 12, two boards 50 wide with 10 cm left of 13 have J = 2 × 50 × 10³
-/// / 12. l = 200, d = 50: k = 1/8 × 80,000 / 100,000 = 0.1. The shares are 2.87, 2.1, 0.7 over 8.47. E =
-/// 100: the stringer between the wheels has 4.2 / 8.47 = 0.495868, more than 3.57 / 8.47 under them; β =
-/// 0.4959 is kept. Oak, class 1, q = 20: (3072 × 2000/3 × 1.3 − 2.4 × 0.2 × 200²) / (1.1 × 0.4959 × 200²)
-/// × 100 = 12,113.9. With β as it is, 12,114.7; rounded down, 12,116.3; under a wheel, 14,252.
+/// A piece 10 by 20 has I = 10 × 20³ / 12, two boards 50 wide with 10 cm left of 13 have J = 2 × 50
+/// × 10³ / 12. l = 200, d = 50: k = 1/8 × 80,000 / 100,000 = 0.1. The shares are 2.87, 2.1, 0.7
+/// over 8.47. E = 100: the stringer between the wheels has 4.2 / 8.47 = 0.495868, more than 3.57 /
+/// 8.47 under them; β = 0.4959 is kept. Oak, class 1, q = 20: (3072 × 2000/3 × 1.3 − 2.4 × 0.2 ×
+/// 200²) / (1.1 × 0.4959 × 200²) × 100 = 12,113.9. With β as it is, 12,114.7; rounded down,
+/// 12,116.3; under a wheel, 14,252.
 #[test]
 fn five_stringers_by_hand() {
     let words = of_piece(close_stringer(200, 50, [2, 13, 50, 3]), [10, 20]);
     assert_eq!(permitted(&[with(words, &[(SPECIES, 6), (DEAD_LOAD, 20)])], 1, 100), [12_113]);
 }
 
-/// Three tiers of log 31, the top one with rot 7: net 17, W = 482 + 2 × 2925 = 6332 and I = 482 × 8.5 +
-/// 2 × 2925 × 15.5 = 94,772. Three boards 44 wide and 15 thick: J = 2376 with rot 9, 1375 with rot 10. l =
-/// 1009, d = 89: k = 0.2190 and 0.3784. E = 190 = 2 × 89 + 12: the most is on the stringer between, β =
-/// 0.5011 and 0.4965. Beech, q = 100: (3072 × 6332 × 1.1 − 2.4 × 1009²) / (1.4 β 1009²) × 100.
+/// Three tiers of log 31, the top one with rot 7: net 17, W = 482 + 2 × 2925 = 6332 and I = 482 ×
+/// 8.5 + 2 × 2925 × 15.5 = 94,772. Three boards 44 wide and 15 thick: J = 2376 with rot 9, 1375
+/// with rot 10. l = 1009, d = 89: k = 0.2190 and 0.3784. E = 190 = 2 × 89 + 12: the most is on the
+/// stringer between, β = 0.5011 and 0.4965. Beech, q = 100: (3072 × 6332 × 1.1 − 2.4 × 1009²) /
+/// (1.4 β 1009²) × 100.
 #[test]
 fn tiers_by_hand() {
     let deck = |rot| close_stringer(1009, 89, [3, 15, 44, rot]);
@@ -110,8 +113,8 @@ fn the_stiffness_number_is_rounded_half_up() {
     assert_eq!(permitted(&[high], 0, 190), [formula_10(1357, 4564, 100)]);
 }
 
-/// 3333.46 is kept as 3333, below 1/3: by three stringers it would have β = 0.5001. 3333.6 is kept as
-/// 3334: by five it would. E = 130 = 2 × 60 + 10.
+/// 3333.46 is kept as 3333, below 1/3: by three stringers it would have β = 0.5001. 3333.6 is kept
+/// as 3334: by five it would. E = 130 = 2 × 60 + 10.
 #[test]
 fn three_stringers_share_from_one_third() {
     let below = of_logs(close_stringer(210, 60, [2, 13, 12, 0]), [20, 0, 1]);
@@ -120,8 +123,8 @@ fn three_stringers_share_from_one_third() {
     assert_eq!(permitted(&[above], 0, 130), [formula_10(4973, 5000, 295)]);
 }
 
-/// The greatest k is 10, with the shares 21/23 and 1/23: β = 0.9131. Log 13, l = 100, d = 30 and boards
-/// 4 thick have k = 9.477 with 6 cm of width, 11.37 with 5.
+/// The greatest k is 10, with the shares 21/23 and 1/23: β = 0.9131. Log 13, l = 100, d = 30 and
+/// boards 4 thick have k = 9.477 with 6 cm of width, 11.37 with 5.
 #[test]
 fn the_greatest_stiffness_number() {
     let of = |deck| of_logs(close_stringer(100, 30, deck), [13, 0, 1]);
@@ -139,10 +142,10 @@ fn the_greatest_stiffness_number() {
     assert_eq!(permitted(&gone, 0, 190), [0, 0]);
 }
 
-/// Ten pieces 12 by 20 with W = 8000 and I = 80,000 over ten boards 20 thick, l = 2 d: k is 80,000 over J.
-/// Boards 12 wide have J = 80,000, so k is 1 and the shares 3/5 and 1/5; boards 60 wide have J = 400,000,
-/// so k is 0.2 and the shares 4.88, 3.2, 0.4 over 12.08. With d = 30, where l = 60 is too short, l = 4 d and
-/// the boards are 10 thick.
+/// Ten pieces 12 by 20 with W = 8000 and I = 80,000 over ten boards 20 thick, l = 2 d: k is 80,000
+/// over J. Boards 12 wide have J = 80,000, so k is 1 and the shares 3/5 and 1/5; boards 60 wide
+/// have J = 400,000, so k is 0.2 and the shares 4.88, 3.2, 0.4 over 12.08. With d = 30, where l =
+/// 60 is too short, l = 4 d and the boards are 10 thick.
 #[test]
 fn wheels_near_and_far_apart() {
     let (three, five) = (12, 60);

@@ -38,8 +38,8 @@ fn the_bank_span_bears_the_lorry() {
     assert_eq!((judgement.figure, judgement.governing, judgement.passes), (1720, 1, false));
 }
 
-/// Close stringers under a sound deck bear the lorry; where three centimetres more of the boards are
-/// rotten, the deck spreads the wheels less and the bridge is refused.
+/// Close stringers under a sound deck bear the lorry; where three centimetres more of the boards
+/// are rotten, the deck spreads the wheels less and the bridge is refused.
 #[test]
 fn the_forest_bridge_bears_the_lorry() {
     let (survey, vehicle) = (sample("close-stringers.tbr"), sample("lorry.tbv"));

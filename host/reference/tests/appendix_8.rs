@@ -1,5 +1,5 @@
-//! The shares of closely spaced stringers against appendix 8 of VSN 12-73, which prints them by k for
-//! three and for five stringers, and against example 2.
+//! The shares of closely spaced stringers against appendix 8 of VSN 12-73, which prints them by k
+//! for three and for five stringers, and against example 2.
 
 use reference::spread::{shares, Shares, WHOLE};
 
@@ -96,6 +96,7 @@ fn the_shares_add_to_one() {
 /// 3333 ten-thousandths are below 1/3, 3334 are above: there the loads reach three stringers.
 #[test]
 fn three_stringers_from_one_third() {
-    assert_eq!(shares(3333).parts[2], 10_000 * (10_000 - 3 * 3333));
+    // 1 − 3k is one ten-thousandth, times 10⁸.
+    assert_eq!(shares(3333).parts[2], 10_000);
     assert_eq!(shares(3334), Shares { parts: [16_668, 10_000, 0], divisor: 36_668 });
 }

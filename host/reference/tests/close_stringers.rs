@@ -1,4 +1,5 @@
-//! Closely spaced stringers, kind 7: figures worked out by hand, and what the generator makes of them.
+//! Closely spaced stringers, kind 7: figures worked out by hand, and what the generator makes of
+//! them.
 
 use reference::fraction::{over, whole};
 use reference::generate::*;
@@ -26,8 +27,8 @@ const SAWN: Member = Member {
     b: 3,
 };
 
-/// Three tiers of log 31, rot 7 in the top one; beech, l = 1009, d = 89, q = 100, three boards 44 wide
-/// and 15 thick with this rot.
+/// Three tiers of log 31, rot 7 in the top one; beech, l = 1009, d = 89, q = 100, three boards 44
+/// wide and 15 thick with this rot.
 fn logs(deck_rot: u16) -> Member {
     let (s, deck) = ([31, 7, 3, 0, 0, 0], Member { x: 3, h: 15, a: 44, b: deck_rot, ..SAWN });
     Member { species: 8, l: 1009, d: 89, q: 100, code: 1, s, ..deck }
@@ -37,9 +38,9 @@ fn vehicle(class: u8, track: u16) -> Vehicle {
     Vehicle { class, track, axles: vec![Axle { weight: 1, distance: 0 }] }
 }
 
-/// I = W h / 2 = 12 × 20³ / 12 = 8000, J = 12 × 2³ / 12 = 8, 8d³ / l³ = 1/1000: k = 1, the shares are
-/// 3/5 and 1/5. E = 190 = 3 × 50 + 40, so no stringer has a part of both wheels that is above 3/5:
-/// β = 0.6. W = 800: (3072 × 800 − 2.4 × 0.1 × 10⁶) / (1.4 × 0.6 × 10⁶) = 2.64.
+/// I = W h / 2 = 12 × 20³ / 12 = 8000, J = 12 × 2³ / 12 = 8, 8d³ / l³ = 1/1000: k = 1, the shares
+/// are 3/5 and 1/5. E = 190 = 3 × 50 + 40, so no stringer has a part of both wheels that is above
+/// 3/5: β = 0.6. W = 800: (3072 × 800 − 2.4 × 0.1 × 10⁶) / (1.4 × 0.6 × 10⁶) = 2.64.
 #[test]
 fn three_stringers_by_hand() {
     assert_eq!(section_modulus(&SAWN), whole(800));
@@ -51,11 +52,11 @@ fn three_stringers_by_hand() {
     assert_eq!(permitted_load(&SAWN, &vehicle(0, 190)), 264);
 }
 
-/// l = 200, a piece 10 by 20, two boards 50 wide and 13 thick with rot 3: I = 10 × 20³ / 12, J = 2 × 50
-/// × 10³ / 12, 8d³ / l³ = 1/8: k = 0.1. The shares are 2.87, 2.1, 0.7 over 8.47. E = 100 = 2 × 50: the
-/// stringer between the wheels has 4.2 / 8.47 = 0.49587 and those under them 3.57 / 8.47: β = 0.4959.
-/// W = 2000/3, oak, class 1, q = 20: (3072 × 2000/3 × 1.3 − 2.4 × 0.2 × 40,000) / (1.1 × 0.4959 ×
-/// 40,000) = 121.1387; with β unrounded it would be 121.1467.
+/// l = 200, a piece 10 by 20, two boards 50 wide and 13 thick with rot 3: I = 10 × 20³ / 12, J = 2
+/// × 50 × 10³ / 12, 8d³ / l³ = 1/8: k = 0.1. The shares are 2.87, 2.1, 0.7 over 8.47. E = 100 = 2 ×
+/// 50: the stringer between the wheels has 4.2 / 8.47 = 0.49587 and those under them 3.57 / 8.47: β
+/// = 0.4959. W = 2000/3, oak, class 1, q = 20: (3072 × 2000/3 × 1.3 − 2.4 × 0.2 × 40,000) / (1.1 ×
+/// 0.4959 × 40,000) = 121.1387; with β unrounded it would be 121.1467.
 #[test]
 fn five_stringers_by_hand() {
     let deck = Member { x: 2, h: 13, a: 50, b: 3, ..SAWN };
@@ -67,8 +68,9 @@ fn five_stringers_by_hand() {
 }
 
 /// The top log has net diameter 17: W = 482, I = 482 × 17 / 2 = 4097. Two sound ones have W = 2925,
-/// I = 2925 × 31 / 2 = 45,337.5 each: W = 6332, I = 94,772. J = 3 × 44 × 6³ / 12 = 2376 with deck rot 9,
-/// 1375 with 10: k = 0.2190 and 0.3784. More deck rot gives a higher load here: the shares change.
+/// I = 2925 × 31 / 2 = 45,337.5 each: W = 6332, I = 94,772. J = 3 × 44 × 6³ / 12 = 2376 with deck
+/// rot 9, 1375 with 10: k = 0.2190 and 0.3784. More deck rot gives a higher load here: the shares
+/// change.
 #[test]
 fn deeper_deck_rot_may_bear_more() {
     assert_eq!(section_modulus(&logs(9)), whole(6332));
@@ -96,9 +98,9 @@ fn nothing_left() {
     assert_eq!(beta(&rotten, 190), 4000);
 }
 
-/// One log 13 over a span of 100, d = 30: I = 1404, 8d³ = 216,000, l³ = 10⁶. A board 8 wide with 4 cm
-/// left has J = 128/3: k = 7.10775, in ten-thousandths a half. A board 10 wide and 4 thick has J =
-/// 160/3 and k = 5.6862, 7 wide 112/3 and 8.12314...
+/// One log 13 over a span of 100, d = 30: I = 1404, 8d³ = 216,000, l³ = 10⁶. A board 8 wide with 4
+/// cm left has J = 128/3: k = 7.10775, in ten-thousandths a half. A board 10 wide and 4 thick has J
+/// = 160/3 and k = 5.6862, 7 wide 112/3 and 8.12314...
 #[test]
 fn halves_are_rounded_up() {
     let of = |a, h| {
@@ -110,7 +112,8 @@ fn halves_are_rounded_up() {
     assert_eq!([of(5, 4), of(6, 4), of(60, 20)], [GREATEST_K, 94_770, 76]);
 }
 
-/// The greatest influence is under a wheel, between two wheels, or under both, by track and spacing.
+/// The greatest influence is under a wheel, between two wheels, or under both, by track and
+/// spacing.
 #[test]
 fn the_most_loaded_stringer() {
     // k = 1: 3/5 and 1/5. k = 0.1: 2.87, 2.1, 0.7 over 8.47. k = 0: five fifths.

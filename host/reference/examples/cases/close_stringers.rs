@@ -7,8 +7,8 @@ use crate::survey_faults::Turn;
 use reference::generate::VehicleWords;
 use reference::layout::*;
 
-/// A log stringer over boards: diameter, rot and tiers; span and spacing; count, thickness and width
-/// of the boards and their rot. Pine, no dead load.
+/// A log stringer over boards: diameter, rot and tiers; span and spacing; count, thickness and
+/// width of the boards and their rot. Pine, no dead load.
 fn logs(section: [u16; 3], [span, spacing]: [u16; 2], deck: [u16; 4]) -> Words {
     let [diameter, rot, tiers] = section;
     let record = with(usual(7, 1), &[(SPAN, span), (SPACING, spacing), (DEAD_LOAD, 0)]);
