@@ -200,36 +200,6 @@ fn fields_of_a_crescent_at_fault() {
     }
 }
 
-const CLOSE_STRINGERS: &[u8] = include_bytes!("../../samples/close-stringers.tbr");
-
-/// The names and limits of the kind itself: the same words are others in a stringer or a joint.
-#[test]
-fn fields_of_a_close_stringer_at_fault() {
-    let (log, sawn) = (1, 3);
-    let [kind, d, x, h, section, s4, s6, a, b] = [0, 3, 4, 5, 7, 11, 13, 14, 15];
-    for (place, word, value, words) in [
-        (log, section, 5, "section: 5 is not one of: 1 log, 2 sawn"),
-        (log, section, 4, "section: 4 is not one of: 1 log, 2 sawn"),
-        (log, d, 29, "spacing (d): 29 is outside 30 to 100 cm"),
-        (log, d, 101, "spacing (d): 101 is outside 30 to 100 cm"),
-        (log, x, 0, "boards (x): 0 is outside 1 to 10"),
-        (log, x, 11, "boards (x): 11 is outside 1 to 10"),
-        (log, h, 0, "board thickness (h): 0 is outside 1 to 20 cm"),
-        (log, h, 21, "board thickness (h): 21 is outside 1 to 20 cm"),
-        (sawn, a, 0, "board width (A): 0 is outside 1 to 60 cm"),
-        (sawn, a, 61, "board width (A): 61 is outside 1 to 60 cm"),
-        (sawn, b, 21, "deck rot (B): 21 is outside 0 to 20 cm"),
-        (log, s4, 1, "s4: 1 must be 0: the section 'log' does not use it"),
-        (sawn, s6, 1, "lost area (s6): 1 must be 0: a beam in bending has no lost area"),
-    ] {
-        let bytes = with_word(CLOSE_STRINGERS, place, word, value);
-        assert_eq!(survey_words(&bytes), [words], "{place} {word}");
-    }
-    let stringer = ["x: 2", "h: 10", "A: 20", "B: 1"];
-    let unused = |number| format!("{number} must be 0: the kind 'stringer' does not use it");
-    assert_eq!(survey_words(&with_word(CLOSE_STRINGERS, log, kind, 1)), stringer.map(unused));
-}
-
 /// All fields of the record that the number is about.
 #[test]
 fn several_fields_at_fault() {

@@ -286,51 +286,6 @@ fn errors_of_a_crescent() {
     assert_eq!(error(chord), "line 2, section: 'crescent' is not one of: sawn");
 }
 
-const CLOSE_STRINGER: &str = "close stringer, species pine, span 500 cm, spacing 60 cm, boards 2, \
-                              board thickness 10 cm, board width 20 cm, deck rot 1 cm, \
-                              dead load 97 kgf/m, section log, diameter 28 cm, rot 1 cm, tiers 1";
-
-/// The deck's fields stand in x, h, A and B; A may be above B, and they go there and back.
-#[test]
-fn a_close_stringer() {
-    let text = format!("survey\n{CLOSE_STRINGER}\n");
-    let contents = read(text.as_bytes()).unwrap();
-    let Contents::Survey(members) = &contents else { panic!("{contents:?}") };
-    assert_eq!(members[0], [7, 1, 500, 60, 2, 10, 97, 1, 28, 1, 1, 0, 0, 0, 20, 1]);
-    assert!(is_taken(&contents));
-    assert_eq!(write(&contents).unwrap(), text);
-    let log = "section log, diameter 28 cm, rot 1 cm, tiers 1";
-    let sawn = "section sawn, width 18 cm, height 24 cm, side rot 1 cm, top rot 2 cm, pieces 3";
-    let text = text.replace(log, sawn).replace("deck rot 1 cm", "deck rot 20 cm");
-    let contents = read(text.as_bytes()).unwrap();
-    let Contents::Survey(members) = &contents else { panic!("{contents:?}") };
-    assert_eq!(members[0], [7, 1, 500, 60, 2, 10, 97, 2, 18, 24, 1, 2, 3, 0, 20, 20]);
-    assert_eq!(write(&contents).unwrap(), text);
-}
-
-#[test]
-fn errors_of_a_close_stringer() {
-    for (from, to, words) in [
-        ("spacing 60", "spacing 29", "spacing: 29 is outside 30 to 100 cm"),
-        ("spacing 60", "spacing 140", "spacing: 140 is outside 30 to 100 cm"),
-        ("boards 2", "boards 0", "boards: 0 is outside 1 to 10"),
-        ("boards 2", "boards 2 cm", "boards: 'cm' follows a plain number"),
-        ("thickness 10", "thickness 21", "board thickness: 21 is outside 1 to 20 cm"),
-        ("width 20", "width 61", "board width: 61 is outside 1 to 60 cm"),
-        ("deck rot 1", "deck rot 21", "deck rot: 21 is outside 0 to 20 cm"),
-        (", deck rot 1 cm", "", "deck rot: is missing"),
-        ("section log", "section crescent", "section: 'crescent' is not one of: log, sawn"),
-        ("tiers 1", "tiers 1, joint part 2", "'joint part 2': there is no such field here"),
-    ] {
-        let line = CLOSE_STRINGER.replace(from, to);
-        let text = format!("survey\n{line}\n");
-        assert_eq!(error(&text), format!("line 2, {words}"), "{line}");
-    }
-    let boards = STRINGER.replace("spacing 140 cm", "spacing 140 cm, boards 2");
-    let words = "line 2, 'boards 2': there is no such field here";
-    assert_eq!(error(&format!("survey\n{boards}\n")), words);
-}
-
 #[test]
 fn errors_of_a_number() {
     for found in ["50.0", "-1", "+5", "0x10", "five", "5OO"] {

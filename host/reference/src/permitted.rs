@@ -4,7 +4,7 @@
 use crate::fraction::{over, whole, Fraction};
 use crate::reader::{Member, Vehicle};
 use crate::section::{area, dowel_capacity, section_modulus};
-use crate::spread::{beta, WHOLE};
+use crate::spread::{beta, stiffness_number, WHOLE};
 
 /// Factors of a species in tenths: K for bending and tension, S for shear.
 pub(crate) const SPECIES: [(u16, u16); 8] =
@@ -77,7 +77,8 @@ fn plates(m: &Member) -> Fraction {
 /// Kind 7, formula (10), with the β that is kept.
 fn close_stringer(m: &Member, v: &Vehicle) -> Fraction {
     let (w, k, n) = (section_modulus(m), factor_k(m), factor_n(v));
-    let (q, l, beta) = (over(m.q.into(), 100), whole(m.l), over(beta(m, v.track), WHOLE));
+    let (q, l) = (over(m.q.into(), 100), whole(m.l));
+    let beta = over(beta(stiffness_number(m), m.d, v.track), WHOLE);
     (whole(3072) * w * k - over(24, 10) * q * l * l) / (n * beta * l * l)
 }
 

@@ -67,9 +67,8 @@ fn greatest_influence(shares: &Shares, spacing: i128, track: i128) -> i128 {
     TRIED.map(influence).max().expect("stringers are tried")
 }
 
-/// "It is kept in ten-thousandths, rounded up."
-pub fn beta(member: &Member, track: u16) -> i128 {
-    let shares = shares(stiffness_number(member));
-    let (d, track) = (i128::from(member.d), i128::from(track));
-    over(WHOLE * greatest_influence(&shares, d, track), shares.divisor * d).ceiling()
+/// β of a stiffness number: "It is kept in ten-thousandths, rounded up."
+pub fn beta(k: i128, spacing: u16, track: u16) -> i128 {
+    let (shares, d) = (shares(k), i128::from(spacing));
+    over(WHOLE * greatest_influence(&shares, d, track.into()), shares.divisor * d).ceiling()
 }

@@ -1,7 +1,7 @@
 //! The shares of closely spaced stringers against appendix 8 of VSN 12-73, which prints them by k
 //! for three and for five stringers, and against example 2.
 
-use reference::spread::{shares, Shares, WHOLE};
+use reference::spread::{beta, shares, Shares, WHOLE};
 
 /// k in ten-thousandths, then the shares in thousandths, as printed.
 type Row = (i128, [i128; 3]);
@@ -81,6 +81,19 @@ fn example_2() {
     let Shares { parts, divisor } = shares(1590);
     let hundredths = parts.map(|part| (200 * part + divisor) / (2 * divisor));
     assert_eq!(hundredths, [38, 26, 5]);
+}
+
+/// Example 2 goes on: d = 60, E = 190 = 3 × 60 + 10. Printed are β = 0.381 under a wheel, which is
+/// the greatest, and 33.4 kgf/cm for W = 1642 of a log that rots from above, which kind 7 has no
+/// section code for, K = 1, n = 1.4, q = 0.97, l = 500.
+#[test]
+fn example_2_to_the_end() {
+    let beta = beta(1590, 60, 190);
+    assert_eq!(beta, 3817);
+    // Tenths of kgf/cm, rounded. The divisor is times 10⁵, as n is in tenths and β in
+    // ten-thousandths; 2.4 × 0.97 × 500² = 582,000.
+    let (front, divisor) = (3072 * 1642 - 582_000, 14 * beta * 500 * 500);
+    assert_eq!((2 * 10 * 100_000 * front + divisor) / (2 * divisor), 334);
 }
 
 /// The shares of both sides add to one, and none is negative, for every k that can be kept.

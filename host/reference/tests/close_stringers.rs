@@ -6,7 +6,7 @@ use reference::generate::*;
 use reference::layout::*;
 use reference::permitted::{exact, permitted_load};
 use reference::section::{deck_inertia, moment_of_inertia, section_modulus};
-use reference::spread::{beta, stiffness_number, GREATEST_K};
+use reference::spread::{self, stiffness_number, GREATEST_K};
 use reference::{reader, Axle, Member, Vehicle};
 use std::collections::BTreeMap;
 
@@ -36,6 +36,11 @@ fn logs(deck_rot: u16) -> Member {
 
 fn vehicle(class: u8, track: u16) -> Vehicle {
     Vehicle { class, track, axles: vec![Axle { weight: 1, distance: 0 }] }
+}
+
+/// β of a member.
+fn beta(member: &Member, track: u16) -> i128 {
+    spread::beta(stiffness_number(member), member.d, track)
 }
 
 /// I = W h / 2 = 12 × 20³ / 12 = 8000, J = 12 × 2³ / 12 = 8, 8d³ / l³ = 1/1000: k = 1, the shares
