@@ -7,7 +7,7 @@ use reference::layout::*;
 use reference::permitted::{exact, permitted_load};
 use reference::section::{deck_inertia, moment_of_inertia, section_modulus};
 use reference::spread::{self, stiffness_number, GREATEST_K};
-use reference::{reader, Axle, Member, Vehicle};
+use reference::{influence::vehicle_load, reader, Axle, Member, Vehicle};
 use std::collections::BTreeMap;
 
 const SEED: u64 = 0xc105_e000;
@@ -87,6 +87,28 @@ fn deeper_deck_rot_may_bear_more() {
     assert_eq!(found, [(whole(2376), 2190, 5011), (whole(1375), 3784, 4965)]);
     let loads = [9, 10].map(|rot| permitted_load(&logs(rot), &vehicle(0, 190)));
     assert_eq!(loads, [2653, 2678]);
+}
+
+/// Code 2 takes its net width and net height, for W and for I: 12 by 20 are left of 13 by 24.
+#[test]
+fn a_decayed_piece() {
+    let decayed = Member { s: [13, 24, 1, 4, 1, 0], ..SAWN };
+    assert_eq!(section_modulus(&decayed), whole(800));
+    assert_eq!(moment_of_inertia(&decayed), whole(8000));
+    let three = Member { s: [13, 24, 1, 4, 3, 0], ..SAWN };
+    assert_eq!(moment_of_inertia(&three), whole(24_000));
+}
+
+/// Base and apex as kind 1: the vehicles of cases I and L.
+#[test]
+fn the_vehicle_load() {
+    let of = |l, weights: [u16; 2], apart| {
+        let axle = |weight, distance| Axle { weight, distance };
+        let axles = vec![axle(weights[0], 0), axle(weights[1], apart)];
+        vehicle_load(&Member { l, ..SAWN }, &Vehicle { class: 0, track: 190, axles })
+    };
+    assert_eq!(of(1000, [2000, 4000], 300), 960);
+    assert_eq!(of(500, [1500, 3000], 370), 1200);
 }
 
 /// Nothing is left of the boards, of the boards and the stringer, or of the stringer alone.

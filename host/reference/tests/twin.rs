@@ -67,6 +67,23 @@ fn the_twin_agrees_on_every_track_and_spacing() {
     }
 }
 
+/// k at a half of a ten-thousandth: 301.5, 724.5 and 3392.5, each of which β shows.
+#[test]
+fn the_twin_rounds_half_up() {
+    let vehicle = vehicle_bytes(&VehicleWords { class: 0, track: 190, axles: vec![[1, 0]] });
+    for (diameter, span, spacing, boards, thickness, width) in
+        [(16, 200, 60, 4, 12, 40), (27, 200, 30, 4, 9, 40), (24, 100, 30, 4, 12, 18)]
+    {
+        let mut words = close_stringer(spacing, thickness);
+        [words[SPAN], words[S1]] = [span, diameter];
+        [words[BOARDS], words[BOARD_WIDTH]] = [boards, width];
+        let survey = survey_bytes(&[words]);
+        let (fast, slow) = (twin::judge(&survey, &vehicle), judge(&survey, &vehicle));
+        assert!(slow.is_ok(), "diameter {diameter}: {slow:?}");
+        assert_eq!(fast, slow, "diameter {diameter}");
+    }
+}
+
 #[test]
 fn the_twin_refuses_alike() {
     const SEED: u64 = 0x7718;
