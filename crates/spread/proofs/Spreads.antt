@@ -9,7 +9,7 @@ use native.Mathlib.Omega.{arith}
 use borrow.Author.Tests.{le-leb, lt-leb}
 use Rattle.section.specs.Fraction.{Fraction, Sound, over, whole, square, _·_, _÷_, _⊕_, _⊖_, _≐_}
 use Rattle.section.proofs.Order.{÷-sound, whole-sound}
-use Rattle.spread.specs.Spread.{Spread, threeStringers, fiveStringers, spreadOf, share}
+use Rattle.spread.specs.Spread.{Spread, threeStringers, fiveStringers, spreadOf, share, AddsToOne}
 use Rattle.spread.specs.Stiffness.{tenThousandths}
 use Rattle.spread.specs.Scaled.{part, SharesOf}
 use Rattle.spread.specs.declared.shares.Shares.{Shares}
@@ -93,4 +93,20 @@ sensible k =
     elim (decLe 10000 (3 * k)) [
       | yes h ↦ rw (spread-of-three k h) (three-sensible k)
       | no h ↦ rw (spread-of-five k (omega arith)) (five-sensible k)
+    ]
+
+-- below 1/3 the difference 1 − 3k does not fall below 0, so that the shares add up
+three-adds : (k : ℕ) → AddsToOne (threeStringers (tenThousandths k))
+unfolding threeStringers over whole _·_ _⊕_
+three-adds k = record { out = omega arith }
+
+five-adds : (k : ℕ) → 3 * k < 10000 → AddsToOne (fiveStringers (tenThousandths k))
+unfolding fiveStringers over whole square _·_ _⊕_ _⊖_
+five-adds k h = record { out = omega arith }
+
+pub adds-to-one : (k : ℕ) → AddsToOne (spreadOf (tenThousandths k))
+adds-to-one k =
+    elim (decLe 10000 (3 * k)) [
+      | yes h ↦ rw (spread-of-three k h) (three-adds k)
+      | no h ↦ rw (spread-of-five k (omega arith)) (five-adds k (omega arith))
     ]

@@ -4,7 +4,7 @@ use mathlib.Core.List.{[], _∷_}
 use lib.Dec.{leb}
 use lib.ListN.{getD}
 use Rattle.section.specs.Choose.{choose}
-use Rattle.section.specs.Fraction.{Fraction, whole, square, _·_, _÷_, _⊕_, _⊖_}
+use Rattle.section.specs.Fraction.{Fraction, whole, square, _·_, _÷_, _⊕_, _⊖_, _≐_}
 
 -- the shares of the loaded stringer and of those one, two and three spacings from it, on each side, over one divisor
 pub record Spread : Type 0 where
@@ -43,3 +43,7 @@ spreadOf k = choose (leb (1 * k .den) (k .num * 3)) (threeStringers k) (fiveStri
 -- the share of a stringer that stands this many spacings away: "Any stringer farther off has share 0."
 unfoldable pub share : Spread → (away : ℕ) → Fraction
 share s away = getD (s .own ∷ s .next ∷ s .second ∷ s .third ∷ []) away (whole 0) ÷ s .divisor
+
+-- nothing of the load is lost: the shares, both sides counted, add to one, that is to their divisor
+abbrev pub AddsToOne : Spread → Type 0
+AddsToOne s = s .own ⊕ whole 2 · (s .next ⊕ s .second ⊕ s .third) ≐ s .divisor
