@@ -47,7 +47,7 @@ const CLOSE_LOW: [u32; 16] = [1, 1, 100, 30, 1, 1, 0, 1, 0, 0, 0, 0, 0, 0, 1, 0]
 const CLOSE_HIGH: [u32; 16] = [
     7, // kind
     8, // species
-    5000, // l
+    5000, // span
     100, // d
     10, // board count
     20, // board thickness

@@ -31,7 +31,7 @@ returns : tie.Need-returns
 unfolding threeStringers over whole _·_ _÷_ _⊕_
 returns c =
     let k = c .before .args .k in (
-      rw (spread-of-three k (c .if1 .taken))
+      rw (spread-of-three k (omega arith))
           (shares-are (threeStringers (tenThousandths k)) _ (record { out = omega arith }) (record { out = omega arith }) (record { out = omega arith }) (record { out = omega arith })),
       record { above-0 = omega arith; high = omega arith; parts = parts-below (omega arith) (omega arith) (omega arith) (omega arith) },
     )
