@@ -19,7 +19,7 @@ use Rattle.section.specs.Greatest.{top}
 use Rattle.influence.specs.Scaled.{scaledHeight, scaledSum, apexTop}
 use Rattle.influence.specs.Bounds.{Bounded}
 use Rattle.influence.proofs.Folds.{total-cap, total-more, total-rest}
-use Rattle.section.proofs.Greatest.{of-top}
+use Rattle.section.proofs.Greatest.{of-top, top-next}
 use Rattle.influence.proofs.Apex.{rising-side, falling-side}
 use Rattle.influence.proofs.Scaled.{mirrored}
 
@@ -63,11 +63,10 @@ sum-rest U P w ds i n u l off = total-rest _ i n l λ k p q. nothing k (omega (a
 abbrev pub topOf : (U P : ℕ) (w b : ℕ → ℕ) (n j : ℕ) → ℕ
 topOf U P w b n j = top (λ i. scaledSum U P w b n (P + b i)) j
 
-pub top-next :
+pub apex-next :
     (U P : ℕ) (w b : ℕ → ℕ) (n j : ℕ) {r t s u : ℕ} →
     r ≡ max t s → t ≡ topOf U P w b n j → s ≡ scaledSum U P w b n u → u ≡ P + b j → r ≡ topOf U P w b n (j + 1)
-unfolding top
-top-next U P w b n j e t s u = rw (add-one j, e, t, s, u) refl
+apex-next U P w b n j e t s u = top-next (λ i. scaledSum U P w b n (P + b i)) j t (rw (← u) s) e
 
 -- the load's numerator and divisor, multiplied out
 over-same : {n n' d d' : ℕ} → n ≡ n' → d ≡ d' → over n d ≡ over n' d'

@@ -46,7 +46,7 @@ half-up-whole n d p =
     ap (λ (x : ℕ). x / 2) (sym (add-div-right (n * 2) p)) ∙ div-div-eq-div-mul (n * 2 + d) d 2 ∙ ap (λ (x : ℕ). x / (d * 2)) (omega arith)
 
 -- equal moments of inertia give the same number
-module _ {d l : Fraction} (sd : Sound d) (sl : Sound l) (pl : 0 < l .num) where
+module _ {d : Fraction} (l : Fraction) (sd : Sound d) (pl : 0 < l .num) where
   cube-sound : {a : Fraction} → Sound a → Sound (cube a)
   unfolding cube
   cube-sound s = ·-sound (·-sound s s) s
@@ -85,7 +85,7 @@ unfolding stiffnessNumber stiffness cube over whole _·_ _÷_
 stiffness-whole d i l j pl pj =
     rw (ne-eqb j 0 (omega arith))
     (ap (λ (x : ℕ). min x GREATEST-STIFFNESS)
-    (half-up-same (number-sound (whole-sound d) (whole-sound l) pl (over i 12) (over j 12) (over-sound i 12 (omega arith)) pj) (over-sound _ _ (mul-pos (mul-pos (mul-pos pl pl) pl) pj))
+    (half-up-same (number-sound (whole l) (whole-sound d) pl (over i 12) (over j 12) (over-sound i 12 (omega arith)) pj) (over-sound _ _ (mul-pos (mul-pos (mul-pos pl pl) pl) pj))
     (record { out = omega arith }) ∙
     sym (half-up-whole (10000 * (8 * (d * d * d) * i)) (l * l * l * j) (mul-pos (mul-pos (mul-pos pl pl) pl) pj)) ∙
     ap (λ (x : ℕ). (x / (l * l * l * j) + 1) / 2) (omega arith)))

@@ -12,7 +12,7 @@ use Rattle.section.proofs.Products.{product-fits}
 use Rattle.influence.specs.Influence.{total, behind}
 use Rattle.section.specs.Greatest.{top}
 use Rattle.influence.specs.Scaled.{scaledSum, apexTop}
-use Rattle.influence.proofs.Steps.{passed, passed-next, passed-cap, behind-passed, sum-next, sum-rest, height-cap, sum-cap, topOf, top-next}
+use Rattle.influence.proofs.Steps.{passed, passed-next, passed-cap, behind-passed, sum-next, sum-rest, height-cap, sum-cap, topOf, apex-next}
 use Rattle.influence.proofs.apex_top.Statement.{statement}
 use Rattle.influence.proofs.apex_top.Tie as tie
 
@@ -158,7 +158,7 @@ loop-again c =
     let l = c .before .before in
     let at = l .before .before .before .before .before in
     let args = at .before .args in (
-      top-next _ _ (weight (args .t4)) (behind (args .t5)) _ (at .loop .j)
+      apex-next _ _ (weight (args .t4)) (behind (args .t5)) _ (at .loop .j)
           (c .greater .ensures) (at .loop .inv .0) (sum-whole (c .before))
           (omega (arith, behind-passed (args .t5) (at .loop .j))),
       omega arith,

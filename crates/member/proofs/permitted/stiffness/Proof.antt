@@ -47,7 +47,7 @@ returns c =
     let p = c .before .before .before .before .before .before .pre in
     let s = c .before .before .deck .ensures in (
       rw (c .stiffness-number .ensures .0, c .before .before .before .before .before .spacing .ensures, c .before .before .before .span .ensures)
-          (stiffness-number-same (whole-sound _) (whole-sound (field m SPAN)) (omega (arith, close (p .0) (p .1) .span-low)) (over-sound _ 12 (omega arith)) (inertia-sound m)
+          (stiffness-number-same (whole (field m SPAN)) (whole-sound _) (omega (arith, close (p .0) (p .1) .span-low)) (over-sound _ 12 (omega arith)) (inertia-sound m)
           (over-sound _ 12 (omega arith))
           (board-sound m)
           (c .before .before .before .before .inertia .ensures .0)
