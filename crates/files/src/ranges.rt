@@ -19,7 +19,7 @@ ghost use Rattle.member.specs.Format.{_‥_, holds, unusedByKind, unusedByCode,
 ghost use Rattle.files.specs.Reading.{isIn};
 ghost use Rattle.files.specs.VehicleFile.{axleRange};
 
-// The ranges of the fields that no code changes; 0 for s1 to s6, and for x of the kinds but closely spaced stringers.
+// The ranges of kinds 1 to 6, in the order of the record; 0 for x, which goes by kind and span, and for s1 to s6, which go by code.
 const LOW: [u32; 16] = [1, 1, 100, 10, 0, 10, 0, 1, 0, 0, 0, 0, 0, 0, 1, 1];
 
 const HIGH: [u32; 16] = [
@@ -41,7 +41,7 @@ const HIGH: [u32; 16] = [
     1000, // B
 ];
 
-// Those of closely spaced stringers.
+// The same of closely spaced stringers, whose x has a range of its own.
 const CLOSE_LOW: [u32; 16] = [1, 1, 100, 30, 1, 1, 0, 1, 0, 0, 0, 0, 0, 0, 1, 0];
 
 const CLOSE_HIGH: [u32; 16] = [

@@ -1,8 +1,8 @@
 -- The code's whole numbers over P × (U - P) are the fractions of the definitions: heights by their two sides, sums axle by
 -- axle.
 -- Assumes nothing.
-use Prim.Native.Nat.{ℕ, _-_, _*_, _≤_, _<_}
-use mathlib.Core.Path.{_≡_, ap}
+use Prim.Native.Nat.{ℕ, _-_, _*_, _<_}
+use mathlib.Core.Path.{_≡_}
 use mathlib.Core.Bool.{Bool, true, false}
 use native.Mathlib.Nat.{mul-comm, mul-pos}
 use native.Mathlib.Omega.{arith}

@@ -1,15 +1,13 @@
 -- What one turn of the code's loops adds, and that it all fits 64 bits: an axle's place is the one in front's less a distance,
 -- a height is at most 10^8 and a sum at most 16 axles of 200,000 kgf at that height.
 -- Assumes nothing.
-use Prim.Native.Nat.{ℕ, _+_, _-_, _*_, _^_, _≤_, _<_, max}
+use Prim.Native.Nat.{ℕ, _+_, _-_, _*_, _≤_, max}
 use mathlib.Core.Path.{_≡_, refl}
 use mathlib.Core.List.{List}
-use native.Mathlib.Nat.{mul-le-mul, lt-of-le-of-lt}
+use native.Mathlib.Nat.{mul-le-mul}
 use native.Mathlib.Numerals.{add-one}
 use native.Mathlib.Decide.{decLe}
 use native.Mathlib.Omega.{arith}
-use mir.Val.{Fits}
-use mir.Syntax.{w64}
 use Rattle.section.specs.declared.Cm.{Cm}
 use Rattle.section.specs.declared.Kgf.{Kgf}
 use Rattle.section.specs.Fraction.{over, whole, _·_, _÷_}

@@ -1,7 +1,6 @@
 -- What the code computes: whole numbers, every height multiplied by P × (U - P). Nothing here has to be believed:
 -- proofs/Greatest.antt ties it to Influence.
 use Prim.Native.Nat.{ℕ, _+_, _-_, _*_, max}
-use mathlib.Core.Bool.{Bool, true, false}
 use lib.Dec.{leb}
 use Rattle.section.specs.Choose.{choose}
 use Rattle.section.specs.Greatest.{top}

@@ -51,7 +51,7 @@ fn beyond(a: HalfCm, b: HalfCm) -> HalfCm
 fn greater(a: ScaledSum, b: ScaledSum) -> ScaledSum
     ensures { λ r. ⌜ r .0 ≡ max (a .0) (b .0) ⌝ }
 {
-    if a.0 < b.0 { b } else { a }
+    ScaledSum(fraction::greater(a.0, b.0))
 }
 
 // The height at `place` times apex × (base − apex), a whole number.

@@ -13,7 +13,7 @@ use Rattle.section.specs.Choose.{choose, all}
 use Rattle.section.proofs.Crescents.{row-range}
 use Rattle.section.proofs.Table.{all-at}
 use Rattle.member.specs.Fields.{KIND, SPAN, CODE, S1, S2, S3, S4, S5, S6, FIELDS, LAST-KIND, LAST-CODE, field}
-use Rattle.member.specs.Format.{AllowedMember, Range, _‥_, In, used, unusedByKind, unusedByCode, ranges, rangeOf, sectionRange, sectionRanges, RangeOfRows, suits, bending}
+use Rattle.member.specs.Format.{AllowedMember, _‥_, In, used, unusedByKind, unusedByCode, ranges, rangeOf, sectionRange, sectionRanges, RangeOfRows, suits, bending}
 use Rattle.member.specs.declared.record.Member.{Member}
 
 -- what holds at every code that suits a kind

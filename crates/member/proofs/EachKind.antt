@@ -1,12 +1,12 @@
 -- Each kind's formula: its divisors are above 0, and its permitted load never rises when the section falls or the dead load
 -- rises. Every quantity is a fraction, so a log's W and a sawn beam's go the same way.
 -- Assumes nothing.
-use Prim.Native.Nat.{ℕ, _-_, _*_, _≤_, _<_}
+use Prim.Native.Nat.{ℕ, _-_, _≤_, _<_}
 use mathlib.Core.Path.{_≡_, refl}
 use native.Mathlib.Nat.{mul-one, le-antisymm}
 use native.Mathlib.Omega.{arith}
-use Rattle.section.specs.Fraction.{Fraction, Sound, over, whole, tenths, hundredths, square, _·_, _⊖_, _⊑_, _≐_}
-use Rattle.section.proofs.Order.{⊑-refl, ≐-⊑, ≐-⊒, ·-mono, ·-sound, ⊖-sound, over-sound, whole-sound, tenths-sound, square-sound}
+use Rattle.section.specs.Fraction.{Fraction, Sound, over, whole, tenths, square, _·_, _⊖_, _⊑_, _≐_}
+use Rattle.section.proofs.Order.{⊑-refl, ≐-⊑, ≐-⊒, ·-mono, ·-sound, over-sound, whole-sound, tenths-sound}
 use Rattle.member.specs.Formula.{Positive, Valid, stringer, closeStringer, crossBeam, chord, joint, permitted}
 use Rattle.member.proofs.Exact.{·-positive, permitted-mono}
 

@@ -1,5 +1,5 @@
--- The permitted load of a member never rises with rot, lost area or dead load, whatever its kind; and it is its formula's
--- exact value rounded down.
+-- The permitted load of a member never rises with rot, lost area or dead load; that of a closely spaced stringer with dead load, where its
+-- rot and its deck's stay. It is its formula's exact value rounded down.
 -- Assumes nothing.
 use Prim.Native.Nat.{ℕ, suc, _≤_, _<_}
 use mathlib.Core.Path.{_≡_, refl, sym, _∙_}

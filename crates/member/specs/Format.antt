@@ -26,8 +26,8 @@ a ‥ b = record { low = a; high = b }
 abbrev pub In : Range → ℕ → Type 0
 In r n = (r .low ≤ n) × (n ≤ r .high)
 
--- "Section code and its fields s1 to s6", each with its range. Code 5: "s1 diameter, s2 depth 0..60, s3 tiers 1..3"; its diameters are those
--- of `RangeOfRows`
+-- "Section code and its fields s1 to s6", each with its range. Code 5: "s1 diameter, s2 depth 0..60, s3 tiers 1..3"; its diameters are
+-- those of `RangeOfRows`
 unfoldable pub sectionRanges : ℕ → List Range
 sectionRanges code =
     choose (eqb code 1) (13 ‥ 39 ∷ 0 ‥ 60 ∷ 1 ‥ 3 ∷ [])
@@ -47,8 +47,8 @@ RangeOfRows = (diameter : ℕ) → In (sectionRange 5 0) diameter ↔ ((0 < leng
 unfoldable pub bending : ℕ → Bool
 bending kind = leb kind 2 || eqb kind 7
 
--- which section codes suit a kind: the column 'section' of the table of permitted loads, and code 5 "for kinds 1 and 2". "Section codes 1 and 2
--- suit kind 7; code 5 does not."
+-- which section codes suit a kind: the column 'section' of the table of permitted loads, and code 5 "for kinds 1 and 2". "Section codes
+-- 1 and 2 suit kind 7; code 5 does not."
 unfoldable pub suits : ℕ → ℕ → Bool
 suits kind code =
     choose (leb kind 2) (eqb code 1 || eqb code 2 || eqb code 5)
@@ -56,7 +56,7 @@ suits kind code =
     (choose (eqb kind 4) (eqb code 3)
     (choose (eqb kind 7) (eqb code 1 || eqb code 2) (eqb code 4))))
 
--- "Unused and therefore 0: kind 1 x, h, A, B; kind 2 d, h, A, B; kind 3 A, B; kind 6 species"
+-- "Unused and therefore 0: kind 1 x, h, A, B; kind 2 d, h, A, B; kind 3 A, B; kind 6 species"; kind 7 uses them all
 unfoldable pub unusedByKind : ℕ → List ℕ
 unusedByKind kind =
     choose (eqb kind 1) (DISTANCE ∷ HEIGHT ∷ MU-A ∷ MU-B ∷ [])
@@ -84,19 +84,19 @@ used kind code f = not (holds f (unusedByKind kind)) && not (holds f (unusedByCo
 abbrev pub distanceRange : (kind l : ℕ) → Range
 distanceRange kind l = choose (eqb kind 2) (10 ‥ 1000) (1 ‥ (l - 1))
 
--- a range of kind 7, and that of the other kinds
-abbrev pub closeOr : (kind : ℕ) → Range → Range → Range
-closeOr kind close other = choose (eqb kind 7) close other
+-- the range of kind 7, or that of the other kinds
+abbrev pub forKind7 : (kind : ℕ) → Range → Range → Range
+forKind7 kind own others = choose (eqb kind 7) own others
 
--- "Ranges: l 100..5000, d 10..1000, x 1..l−1 (kind 2: 10..1000), h 10..500, q 0..10000, A and B 1..1000", with the kinds, the species and the codes,
--- in the order of the record. Kind 7: "d 30..100. The deck fields use x for board count 1..10, h for board thickness 1..20, A for board width 1..60 and
--- B for deck rot 0..20"
+-- "Ranges: l 100..5000, d 10..1000, x 1..l−1 (kind 2: 10..1000), h 10..500, q 0..10000, A and B 1..1000", with the kinds, the species
+-- and the codes, in the order of the record. Kind 7: "d 30..100. The deck fields use x for board count 1..10, h for board thickness 1..20,
+-- A for board width 1..60 and B for deck rot 0..20"
 unfoldable pub ranges : (kind code l : ℕ) → List Range
 ranges kind code l =
-    1 ‥ LAST-KIND ∷ 1 ‥ 8 ∷ 100 ‥ 5000 ∷ closeOr kind (30 ‥ 100) (10 ‥ 1000) ∷ closeOr kind (1 ‥ 10) (distanceRange kind l) ∷
-    closeOr kind (1 ‥ 20) (10 ‥ 500) ∷ 0 ‥ 10000 ∷ 1 ‥ LAST-CODE ∷
+    1 ‥ LAST-KIND ∷ 1 ‥ 8 ∷ 100 ‥ 5000 ∷ forKind7 kind (30 ‥ 100) (10 ‥ 1000) ∷ forKind7 kind (1 ‥ 10) (distanceRange kind l) ∷
+    forKind7 kind (1 ‥ 20) (10 ‥ 500) ∷ 0 ‥ 10000 ∷ 1 ‥ LAST-CODE ∷
     sectionRange code 0 ∷ sectionRange code 1 ∷ sectionRange code 2 ∷ sectionRange code 3 ∷ sectionRange code 4 ∷ sectionRange code 5 ∷
-    closeOr kind (1 ‥ 60) (1 ‥ 1000) ∷ closeOr kind (0 ‥ 20) (1 ‥ 1000) ∷ []
+    forKind7 kind (1 ‥ 60) (1 ‥ 1000) ∷ forKind7 kind (0 ‥ 20) (1 ‥ 1000) ∷ []
 
 -- the range of a field
 unfoldable pub rangeOf : (kind code l f : ℕ) → Range

@@ -1,5 +1,5 @@
--- The permitted load of a member, from its record, the vehicle's class and its track. Document 01, 'Permitted load'; kind 7 from document 02,
--- request 2/13.
+-- The permitted load of a member, from its record, the vehicle's class and its track. Document 01, 'Permitted load'; kind 7 from
+-- document 02, request 2/13.
 use Prim.Native.Nat.{ℕ, _-_, _*_, min}
 use lib.Dec.{eqb}
 use Rattle.section.specs.Choose.{choose}

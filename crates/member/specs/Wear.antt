@@ -35,9 +35,10 @@ pub record Worn (m m' : Member) : Type 0 where
   pub greater : (f : ℕ) → f < FIELDS → wears (field m KIND) (field m CODE) f ≡ true → field m f ≤ field m' f
   pub alike : (f : ℕ) → f < FIELDS → wears (field m KIND) (field m CODE) f ≡ false → field m f ≡ field m' f
 
--- "Rot changes the spread, so what demand 3 says of the permitted loads, figure and verdicts of two surveys now has one more premise: a kind 7
--- record has the same rot in both surveys, deck rot included." Without it the permitted load may rise: beech, l 1009, d 89, q 100, three tiers of
--- log 31 with rot 7, three boards 44 wide and 15 thick, class 0, track 190, give 2653 with deck rot 9 and 2678 with deck rot 10
+-- "Rot changes the spread, so what demand 3 says of the permitted loads, figure and verdicts of two surveys now has one more premise: a
+-- kind 7 record has the same rot in both surveys, deck rot included." Without it the permitted load may rise: beech, l 1009, d 89, q 100,
+-- three tiers of log 31 with rot 7, three boards 44 wide and 15 thick, class 0, track 190, give 2653 with deck rot 9 and 2678 with deck
+-- rot 10
 abbrev pub SpreadKept : (m m' : Member) → Type 0
 SpreadKept m m' = field m KIND ≡ 7 → (f : ℕ) → f < FIELDS → rots 7 (field m CODE) f ≡ true → field m f ≡ field m' f
 

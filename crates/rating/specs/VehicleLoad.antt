@@ -21,7 +21,8 @@ pub record Line : Type 0 where
   pub base : ℕ
   pub apex : ℕ
 
--- "Kind 1: base l, apex l/2. Kind 2: base 2x, apex x. Kinds 3 to 6: base l, apex x." Kind 7, document 02, request 2/13: "base and apex as kind 1"
+-- "Kind 1: base l, apex l/2. Kind 2: base 2x, apex x. Kinds 3 to 6: base l, apex x." Kind 7, document 02, request 2/13: "base and apex as
+-- kind 1"
 unfoldable pub lineOf : (kind l x : ℕ) → Line
 lineOf kind l x =
     choose (eqb kind 1 || eqb kind 7) (record { base = cm l; apex = halfOf l })

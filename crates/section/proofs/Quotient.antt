@@ -2,7 +2,7 @@
 -- Assumes nothing.
 use Prim.Native.Nat.{ℕ, _+_, _*_, _/_, _%_, _≤_, _<_}
 use mathlib.Core.Path.{_≡_, ap, sym, _∙_}
-use native.Mathlib.Nat.{div-add-mod', mod-lt, mul-add-div-right, mul-le-mul-left, mul-le-mul-right, mul-lt-mul-of-pos-right, div-le-of-le-mul}
+use native.Mathlib.Nat.{div-add-mod', mod-lt, mul-add-div-right, mul-le-mul-left, mul-le-mul-right, div-le-of-le-mul}
 use native.Mathlib.Omega.{arith}
 
 pub by-parts : (n k d : ℕ) → 0 < d → n / d * k + n % d * k / d ≡ n * k / d

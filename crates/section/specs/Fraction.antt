@@ -57,12 +57,16 @@ pub record _⊏_ (a b : Fraction) : Type 0 where
 pub record _≐_ (a b : Fraction) : Type 0 where
   pub out : a .num * b .den ≡ b .num * a .den
 
+-- the test of at most
+abbrev pub atMost : Fraction → Fraction → Bool
+atMost a b = leb (a .num * b .den) (b .num * a .den)
+
 -- the lesser and the greater of two, the first where they are equal
 unfoldable pub lesser : Fraction → Fraction → Fraction
-lesser a b = choose (leb (a .num * b .den) (b .num * a .den)) a b
+lesser a b = choose (atMost a b) a b
 
 unfoldable pub greater : Fraction → Fraction → Fraction
-greater a b = choose (leb (b .num * a .den) (a .num * b .den)) a b
+greater a b = choose (atMost b a) a b
 
 -- rounded down, and rounded up, to a whole number
 unfoldable pub floor : Fraction → ℕ

@@ -1,5 +1,5 @@
-// Whole numbers for the fractions of the formulas: a truncated difference, the lesser of two, and quotients that are
-// rounded once.
+// Whole numbers for the fractions of the formulas: a truncated difference, the lesser and the greater of two, and
+// quotients that are rounded once.
 ghost use mathlib.Core.Path.{_≡_};
 ghost use Prim.Native.Nat.{_+_, _-_, _*_, _/_, _^_, _<_, _≤_, min, max};
 ghost use Rattle.section.specs.Fraction.{over, floor, ceiling, RoundedDown, RoundedUp};

@@ -83,7 +83,9 @@ pub record Demand3 : Type 0 where
   pub vehicle-load : (s : Session) (survey vehicle : List ℕ) → Holds s survey vehicle → (i : ℕ) → i < length (members s) →
       Covers (memberAt (members s) i) (s .vehicle) (vehicleLoadAt s i)
   -- "For any two accepted surveys, each with an accepted vehicle, the second with each rot, lost area, dead load and axle weight as great
-  -- or greater, members added at the end, axles added behind, all else alike"
+  -- or greater, members added at the end, axles added behind, all else alike". Document 02, request 2/13: "what demand 3 says of the
+  -- permitted loads, figure and verdicts of two surveys now has one more premise: a kind 7 record has the same rot in both surveys, deck rot
+  -- included. All else of the claim stands." `Falls` has the premise where it is asked
   pub falling : (s s' : Session) (survey vehicle survey' vehicle' : List ℕ) → Holds s survey vehicle → Holds s' survey' vehicle' →
       SamePlaces (members s) (members s') →
       Heavier (s .vehicle) (s' .vehicle) →

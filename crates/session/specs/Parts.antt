@@ -105,7 +105,8 @@ pub record FilesAnswered (s : Session) (survey vehicle : List ℕ) : Type 0 wher
   pub vehicle-load : (i : ℕ) → i < countOf survey →
       Covers (recordAt survey i) (vehicleOf vehicle) (vehicleLoadOn (recordAt survey i) (vehicleOf vehicle))
 
--- of two sessions, "a kind 7 record has the same rot in both surveys, deck rot included": of the member of index i, and of every shared member
+-- of two sessions, "a kind 7 record has the same rot in both surveys, deck rot included": of the member of index i, and of every shared
+-- member
 abbrev pub SameRotAt : (s s' : Session) (i : ℕ) → Type 0
 SameRotAt s s' i = SpreadKept (memberAt (members s) i) (memberAt (members s') i)
 
@@ -113,9 +114,8 @@ abbrev pub SameRot : (s s' : Session) → Type 0
 SameRot s s' = SpreadsKept (members s) (members s') (λ i. i)
 
 -- of two sessions: "the permitted load of a shared member never rises, its vehicle load never falls, the bridge's figure never rises,
--- and no verdict, of a shared member or the bridge, turns from refuse to pass". Document 02, request 2/13: "what demand 3 says of the permitted
--- loads, figure and verdicts of two surveys now has one more premise: a kind 7 record has the same rot in both surveys, deck rot included. All
--- else of the claim stands." A member's own load and verdict ask it of that member alone. Member/specs/Wear.antt has a pair that needs it.
+-- and no verdict, of a shared member or the bridge, turns from refuse to pass". The premise of the same rot is asked of permitted loads,
+-- figure and verdicts: of a member's own load and verdict for that member alone. The pair in member/specs/Wear.antt shows that it is needed
 pub record Falls (s s' : Session) : Type 0 where
   pub permitted : (i : ℕ) → i < length (members s) → SameRotAt s s' i → permittedAt s' i ≤ permittedAt s i
   pub vehicle-load : (i : ℕ) → i < length (members s) → vehicleLoadAt s i ≤ vehicleLoadAt s' i

@@ -2,14 +2,14 @@
 -- three spacings from both wheels; and that β is above 0 and at most 2.
 -- Assumes nothing.
 use Prim.Native.Nat.{ℕ, zero, suc, _+_, _-_, _*_, _≤_, _<_}
-use mathlib.Core.Path.{_≡_, refl, ap, sym, _∙_}
+use mathlib.Core.Path.{_≡_, refl, ap, sym}
 use native.Mathlib.Nat.{div-add-mod', mod-lt, mul-pos, mul-le-mul-left, mul-le-mul-right}
 use native.Mathlib.Decide.{decLe}
 use native.Mathlib.Omega.{arith}
 use lib.IntN.{ℤ, pos, negsuc, subℕ}
 use borrow.Author.Tests.{le-ltb, lt-ltb}
-use Rattle.section.specs.Fraction.{Fraction, Sound, over, whole, ceiling, _·_, _÷_, _⊕_, _⊑_, _≐_}
-use Rattle.section.specs.Greatest.{greatestUpTo, top}
+use Rattle.section.specs.Fraction.{Sound, over, whole, ceiling, _·_, _÷_, _⊕_, _⊑_, _≐_}
+use Rattle.section.specs.Greatest.{top}
 use Rattle.section.proofs.Greatest.{of-top, of-greatest, greatest-at, greatest-over}
 use Rattle.section.proofs.Order.{⊑-refl, ≐-refl, ≐-sym, ≐-trans, ·-same, ·-sound, ÷-sound, ⊕-sound, over-sound, whole-sound, ⊕-over, times-over, ÷-over, over-times}
 use Rattle.section.proofs.Rounding.{rounded-up, ceiling-least, ceiling-same}

@@ -7,7 +7,7 @@ use lib.ListN.{getD}
 use native.Mathlib.Decide.{decLe}
 use native.Mathlib.Omega.{arith}
 use borrow.Author.Tests.{le-leb, lt-leb}
-use Rattle.section.specs.Fraction.{Fraction, Sound, over, whole, square, _·_, _÷_, _⊕_, _⊖_, _≐_}
+use Rattle.section.specs.Fraction.{Sound, over, whole, square, _·_, _÷_, _⊕_, _⊖_, _≐_}
 use Rattle.section.proofs.Order.{÷-sound, whole-sound}
 use Rattle.spread.specs.Spread.{Spread, threeStringers, fiveStringers, spreadOf, share, AddsToOne}
 use Rattle.spread.specs.Stiffness.{tenThousandths}

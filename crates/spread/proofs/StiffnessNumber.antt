@@ -9,7 +9,7 @@ use native.Mathlib.Omega.{arith}
 use lib.Dec.{eqb}
 use borrow.Author.Tests.{eqb-true, eqb-false, eq-eqb, ne-eqb}
 use Rattle.section.specs.Choose.{choose}
-use Rattle.section.specs.Fraction.{Fraction, Sound, over, whole, floor, _·_, _÷_, _⊕_, _⊑_, _≐_}
+use Rattle.section.specs.Fraction.{Fraction, Sound, over, whole, floor, _·_, _÷_, _⊕_, _≐_}
 use Rattle.section.proofs.Order.{⊑-refl, ⊑-antisymm, ≐-⊑, ≐-⊒, ≐-refl, ≐-sym, ·-same, ÷-same, ⊕-mono, ⊕-sound, ·-sound, ÷-sound, over-sound, whole-sound}
 use Rattle.section.proofs.Products.{product-cap}
 use Rattle.section.proofs.Rounding.{rounded-down, floor-same}

@@ -1,5 +1,5 @@
--- What the code computes: whole numbers, the shares over one divisor and what a stringer carries over the divisor times the spacing. Nothing
--- here has to be believed: proofs/ ties it to Spread and Beta.
+-- What the code computes: whole numbers, the shares over one divisor and what a stringer carries over the divisor times the spacing.
+-- Nothing here has to be believed: proofs/ ties it to Spread and Beta.
 use Prim.Native.Nat.{ℕ, _+_, _-_, _*_, _≤_, _<_}
 use mathlib.Core.List.{[], _∷_}
 use lib.ListN.{getD}

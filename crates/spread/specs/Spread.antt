@@ -1,10 +1,9 @@
 -- How the load on one stringer spreads to its neighbours. Document 02, request 2/13.
-use Prim.Native.Nat.{ℕ, _*_}
+use Prim.Native.Nat.{ℕ}
 use mathlib.Core.List.{[], _∷_}
-use lib.Dec.{leb}
 use lib.ListN.{getD}
 use Rattle.section.specs.Choose.{choose}
-use Rattle.section.specs.Fraction.{Fraction, whole, square, _·_, _÷_, _⊕_, _⊖_, _≐_}
+use Rattle.section.specs.Fraction.{Fraction, over, whole, square, atMost, _·_, _÷_, _⊕_, _⊖_, _≐_}
 
 -- the shares of the loaded stringer and of those one, two and three spacings from it, on each side, over one divisor
 pub record Spread : Type 0 where
@@ -36,9 +35,9 @@ fiveStringers k =
       divisor = whole 5 ⊕ whole 34 · k ⊕ whole 7 · square k;
     }
 
--- 1/3 is at most k, by multiplying out
+-- "of 1/3 or more", "Below"
 unfoldable pub spreadOf : (k : Fraction) → Spread
-spreadOf k = choose (leb (1 * k .den) (k .num * 3)) (threeStringers k) (fiveStringers k)
+spreadOf k = choose (atMost (over 1 3) k) (threeStringers k) (fiveStringers k)
 
 -- the share of a stringer that stands this many spacings away: "Any stringer farther off has share 0."
 unfoldable pub share : Spread → (away : ℕ) → Fraction

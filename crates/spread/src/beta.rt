@@ -46,7 +46,7 @@ fn greatest_carried(s: Shares, d: u64, m: u64, r: u64) -> u64
 
 // β at a stiffness number in ten-thousandths, rounded up once.
 pub fn beta(k: u64, d: Cm, track: Cm) -> u64
-    requires { ⌜ (k ≤ 100000) × (10 ≤ d .0) × (d .0 ≤ 100) ⌝ }
+    requires { ⌜ (k ≤ 100000) × (30 ≤ d .0) × (d .0 ≤ 100) ⌝ }
     ensures is { λ x. ⌜ x ≡ beta k (d .0) (track .0) ⌝ }
     ensures cap { λ x. ⌜ x ≤ 20000 ⌝ }
 {

@@ -1,5 +1,4 @@
 // Moments of inertia in twelfths of a cm⁴, which make all of them whole numbers.
-ghost use mathlib.Core.Path.{_≡_};
 ghost use Prim.Native.Nat.{_≤_};
 ghost use Rattle.section.specs.Fraction.{over, _≐_};
 ghost use Rattle.spread.specs.Inertia.{logInertia, tieredInertia, sawnInertia, deckInertia};

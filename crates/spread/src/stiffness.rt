@@ -10,8 +10,8 @@ use section::fraction::round_down;
 
 const GREATEST: u64 = 100000;
 
-// Of the moments of inertia of a stringer and of the deck, in twelfths. 20,000 times the number need not fit 64 bits, so the quotient is taken
-// by parts; one more and halved, it is the quotient of 10,000 times the number rounded half up.
+// Of the moments of inertia of a stringer and of the deck, in twelfths. 20,000 times the front need not fit 64 bits, so that quotient is
+// taken by parts; one more and halved, it is that of 10,000 times the front, rounded half up.
 pub fn stiffness_number(d: Cm, inertia: u64, l: Cm, deck: u64) -> u64
     requires { ⌜ (d .0 ≤ 100) × (inertia ≤ 518400000) × (100 ≤ l .0) × (l .0 ≤ 5000) × (deck ≤ 4800000) ⌝ }
     ensures is { λ r. ⌜ r ≡ stiffnessNumber (whole (d .0)) (over inertia 12) (whole (l .0)) (over deck 12) ⌝ }

@@ -2,7 +2,6 @@
 -- Assumes nothing.
 use native.Mathlib.Omega.{arith}
 use borrow.Author.Tests.{ne-eqb}
-use mathlib.Core.Path.{refl}
 use Rattle.member.specs.Fields.{CODE, field}
 use Rattle.member.specs.PermittedLoad.{netArea}
 use Rattle.member.proofs.Allowed.{area-code, area-size}

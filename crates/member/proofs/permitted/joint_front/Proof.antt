@@ -1,11 +1,8 @@
 -- `member::permitted::joint_front` meets its contract: the kind picks what stands in front, and the sizes are in range.
 -- Assumes nothing.
-use Prim.Native.Nat.{_*_}
-use mathlib.Core.Path.{_≡_, refl, sym, ap, _∙_}
-use native.Mathlib.Nat.{mul-le-mul}
+use mathlib.Core.Path.{_≡_, refl, sym, _∙_}
 use native.Mathlib.Omega.{arith}
 use borrow.Author.Tests.{eq-eqb, ne-eqb}
-use Rattle.section.specs.Fraction.{over, _≐_}
 use Rattle.section.proofs.Order.{whole-sound, tenths-sound}
 use Rattle.member.specs.Fields.{KIND, field}
 use Rattle.member.specs.Format.{used, unusedByKind, unusedByCode, suits, bending}

@@ -2,7 +2,7 @@
 -- Assumes nothing.
 use Prim.Native.Nat.{_*_}
 use native.Mathlib.Omega.{arith}
-use Rattle.section.specs.Fraction.{over, whole}
+use Rattle.section.specs.Fraction.{whole}
 use Rattle.section.proofs.Order.{over-sound, hundredths-sound}
 use Rattle.member.specs.Fields.{SPAN, MU-B, field}
 use Rattle.member.proofs.EachKind.{joint-valid, joint-same, over-positive, rest-positive, whole-positive}

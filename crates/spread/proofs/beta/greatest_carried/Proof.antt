@@ -1,8 +1,7 @@
 -- `spread::beta::greatest_carried` meets its contract. The loop's invariant: the most so far is the greatest of the stringers passed.
 -- Assumes nothing.
 use Prim.Native.Nat.{_+_, _-_, _≤_}
-use mathlib.Core.Path.{_≡_, refl, ap, ap₂, _∙_}
-use native.Mathlib.Numerals.{add-one}
+use mathlib.Core.Path.{_≡_, refl}
 use native.Mathlib.Omega.{arith}
 use borrow.Author.Needs.{needs}
 use Rattle.section.specs.Greatest.{top}
