@@ -9,7 +9,7 @@ use lib.ListN.{getD}
 use lib.Dec.{eqb, leb}
 use borrow.Author.Tests.{eqb-true, ne-eqb}
 use Rattle.member.specs.Format.{Range, _‥_, In, holds, rangeOf, ranges, sectionRange, sectionRanges}
-use Rattle.member.specs.Fields.{S6, LAST-CODE}
+use Rattle.member.specs.Fields.{SPACING, HEIGHT, S6, MU-A, MU-B, LAST-CODE}
 use Rattle.section.specs.Choose.{choose, all}
 use Rattle.section.proofs.Table.{all-at, laidOut, entry}
 use Rattle.files.proofs.Tests.{either}
@@ -57,17 +57,21 @@ plain-entry : (apart : ℕ → Bool) (side : Range → ℕ) (table : List ℕ) (
 plain-entry apart side table rs agree f h other =
     eqb-true _ _ (either (apart f) _ (all-at (plainTest apart side table rs) 16 agree f h) other)
 
--- of kind 7, and of any other
-pub close-entry : (side : Range → ℕ) (table : List ℕ) (code l : ℕ) → all (plainTest sectional side table (ranges 7 code l)) 16 ≡ true → (kind : ℕ) → kind ≡ 7 → (f : ℕ) → f < 16 →
-    sectional f ≡ false → getD table f 0 ≡ side (rangeOf kind code l f)
-unfolding rangeOf
-close-entry side table code l agree kind e f h other = rw e (plain-entry sectional side table (ranges 7 code l) agree f h other)
-
+-- of any kind but 7
 pub other-entry : (side : Range → ℕ) (table : List ℕ) (code l : ℕ) → all (plainTest ruled side table (ranges 1 code l)) 16 ≡ true → (kind : ℕ) → ¬ (kind ≡ 7) → (f : ℕ) → f < 16 →
     ruled f ≡ false → getD table f 0 ≡ side (rangeOf kind code l f)
 unfolding rangeOf ranges
 other-entry side table code l agree kind n f h other =
     plain-entry ruled side table (ranges kind code l) (rw (ne-eqb kind 7 n) agree) f h other
+
+-- of kind 7, which has ranges of its own
+abbrev pub own : ℕ → Bool
+own f = eqb f SPACING || eqb f HEIGHT || eqb f MU-A || eqb f MU-B || ruled f
+
+pub close-entry : (side : Range → ℕ) (table : List ℕ) (code l : ℕ) → all (plainTest own side table (ranges 7 code l)) 16 ≡ true → (kind : ℕ) → kind ≡ 7 → (f : ℕ) → f < 16 →
+    own f ≡ false → getD table f 0 ≡ side (rangeOf kind code l f)
+unfolding rangeOf
+close-entry side table code l agree kind e f h other = rw e (plain-entry own side table (ranges 7 code l) agree f h other)
 
 -- the lost area is unused in bending alone
 pub lost-area : (bends : Bool) (f : ℕ) → (bends && eqb f S6) ≡ holds f (choose bends (S6 ∷ []) [])

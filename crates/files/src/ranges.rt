@@ -15,11 +15,12 @@ use member::record::SPECIES;
 ghost use mathlib.Core.Path.{_≡_};
 ghost use Prim.Native.Nat.{_<_};
 ghost use Rattle.member.specs.Fields.{FIELDS};
-ghost use Rattle.member.specs.Format.{_‥_, holds, unusedByKind, unusedByCode, used, distanceRange, sectionRange, rangeOf, suits};
+ghost use Rattle.member.specs.Format.{_‥_, holds, unusedByKind, unusedByCode, used, distanceRange, forKind7, sectionRange, rangeOf, suits};
 ghost use Rattle.files.specs.Reading.{isIn};
 ghost use Rattle.files.specs.VehicleFile.{axleRange};
 
-// The ranges of kinds 1 to 6, in the order of the record; 0 for x, which goes by kind and span, and for s1 to s6, which go by code.
+// The ranges in the order of the record, but for what kind 7 has of its own; 0 for x, which goes by kind and span, and for s1 to s6,
+// which go by code.
 const LOW: [u32; 16] = [1, 1, 100, 10, 0, 10, 0, 1, 0, 0, 0, 0, 0, 0, 1, 1];
 
 const HIGH: [u32; 16] = [
@@ -39,28 +40,6 @@ const HIGH: [u32; 16] = [
     0,
     1000, // A
     1000, // B
-];
-
-// The same of closely spaced stringers, whose x has a range of its own.
-const CLOSE_LOW: [u32; 16] = [1, 1, 100, 30, 1, 1, 0, 1, 0, 0, 0, 0, 0, 0, 1, 0];
-
-const CLOSE_HIGH: [u32; 16] = [
-    7, // kind
-    8, // species
-    5000, // span
-    100, // d
-    10, // board count
-    20, // board thickness
-    10000, // q
-    5, // code
-    0,
-    0,
-    0,
-    0,
-    0,
-    0,
-    60, // board width
-    20, // deck rot
 ];
 
 // The ranges of s1 to s6, six for each code; 0 for what a code lacks.
@@ -229,19 +208,27 @@ pub fn limits_of(kind: u16, code: u16, span: u16, field: usize) -> Limits
     requires { ⌜ field < FIELDS ⌝ }
     ensures { λ r. ⌜ (r .low ≡ rangeOf kind code span field .low) × (r .high ≡ rangeOf kind code span field .high) ⌝ }
 {
+    if field == DISTANCE {
+        return distance_limits(kind, span);
+    }
     if S1 <= field {
         if field <= S6 {
             return section_limits(code, field - S1);
         }
     }
     if kind == CLOSE_STRINGER {
-        return Limits {
-            low: CLOSE_LOW[field],
-            high: CLOSE_HIGH[field],
-        };
-    }
-    if field == DISTANCE {
-        return distance_limits(kind, span);
+        if field == SPACING {
+            return Limits { low: 30, high: 100 };
+        }
+        if field == HEIGHT {
+            return Limits { low: 1, high: 20 };
+        }
+        if field == MU_A {
+            return Limits { low: 1, high: 60 };
+        }
+        if field == MU_B {
+            return Limits { low: 0, high: 20 };
+        }
     }
     Limits {
         low: LOW[field],
@@ -268,15 +255,18 @@ fn section_limits(code: u16, s: usize) -> Limits
     }
 }
 
-// "x 1..l−1 (kind 2: 10..1000)"
+// "x 1..l−1 (kind 2: 10..1000)", and "board count 1..10"
 fn distance_limits(kind: u16, span: u16) -> Limits
-    ensures { λ r. ⌜ (r .low ≡ distanceRange kind span .low) × (r .high ≡ distanceRange kind span .high) ⌝ }
+    ensures { λ r. ⌜ (r .low ≡ forKind7 kind (1 ‥ 10) (distanceRange kind span) .low) × (r .high ≡ forKind7 kind (1 ‥ 10) (distanceRange kind span) .high) ⌝ }
 {
     if kind == 2 {
         return Limits {
             low: 10,
             high: 1000,
         };
+    }
+    if kind == CLOSE_STRINGER {
+        return Limits { low: 1, high: 10 };
     }
     if span == 0 {
         return Limits { low: 1, high: 0 };
