@@ -48,11 +48,10 @@ fn beyond(a: HalfCm, b: HalfCm) -> HalfCm
     HalfCm(fraction::less(a.0, b.0))
 }
 
-// Not by `fraction::greater`, which took six instructions more a position.
 fn greater(a: ScaledSum, b: ScaledSum) -> ScaledSum
     ensures { λ r. ⌜ r .0 ≡ max (a .0) (b .0) ⌝ }
 {
-    if a.0 < b.0 { b } else { a }
+    ScaledSum(fraction::greater(a.0, b.0))
 }
 
 // The height at `place` times apex × (base − apex), a whole number.
