@@ -7,7 +7,7 @@ use native.Mathlib.Nat.{mul-one, le-antisymm}
 use native.Mathlib.Omega.{arith}
 use Rattle.section.specs.Fraction.{Fraction, Sound, over, whole, tenths, square, _·_, _⊖_, _⊑_, _≐_}
 use Rattle.section.proofs.Order.{⊑-refl, ≐-⊑, ≐-⊒, ·-mono, ·-sound, over-sound, whole-sound, tenths-sound}
-use Rattle.member.specs.Formula.{Positive, Valid, stringer, closeStringer, crossBeam, chord, joint, permitted}
+use Rattle.member.specs.Formula.{Formula, ⟨_−_⟩/_, Positive, Valid, stringer, closeStringer, crossBeam, chord, joint, permitted}
 use Rattle.member.proofs.Exact.{·-positive, permitted-mono}
 
 pub whole-positive : (n : ℕ) → 0 < n → Positive (whole n)
@@ -33,25 +33,27 @@ rest-whole l x = rw (mul-one l, mul-one x)
 pub rest-positive : (l x : ℕ) → x < l → Positive (whole l ⊖ whole x)
 rest-positive l x h = rw (rest-whole l x) (whole-positive (l - x) (omega arith))
 
-module _ {W K n q l Kₐ : Fraction} (sW : Sound W) (sK : Sound K) (pn : Positive n) (sq : Sound q) (pl : Positive l) (pKₐ : Positive Kₐ) where
-  pub stringer-valid : Valid (stringer W K n q l Kₐ)
-  unfolding stringer
-  stringer-valid =
+-- formulas (13) and (10) differ in the two constants and in what spreads the load, Kₐ or β
+abbrev bent : (c g W K n q l v : Fraction) → Formula
+bent c g W K n q l v = ⟨ c · W · K − g · q · square l ⟩/ (n · v · square l)
+
+module _ {c g W K n q l v : Fraction} (sc : Sound c) (sg : Sound g) (sW : Sound W) (sK : Sound K) (pn : Positive n) (sq : Sound q) (pl : Positive l) (pv : Positive v) where
+  bent-valid : Valid (bent c g W K n q l v)
+  bent-valid =
       record {
-        front = ·-sound (·-sound (whole-sound _) sW) sK;
-        dead = ·-sound (·-sound (tenths-sound _) sq) (square-positive pl .sound);
-        divisor = ·-positive (·-positive pn pKₐ) (square-positive pl);
+        front = ·-sound (·-sound sc sW) sK;
+        dead = ·-sound (·-sound sg sq) (square-positive pl .sound);
+        divisor = ·-positive (·-positive pn pv) (square-positive pl);
       }
 
-module _ {W K n q l β : Fraction} (sW : Sound W) (sK : Sound K) (pn : Positive n) (sq : Sound q) (pl : Positive l) (pβ : Positive β) where
-  pub close-stringer-valid : Valid (closeStringer W K n q l β)
+module _ {W K n q l v : Fraction} (sW : Sound W) (sK : Sound K) (pn : Positive n) (sq : Sound q) (pl : Positive l) (pv : Positive v) where
+  pub stringer-valid : Valid (stringer W K n q l v)
+  unfolding stringer
+  stringer-valid = bent-valid (whole-sound _) (tenths-sound _) sW sK pn sq pl pv
+
+  pub close-stringer-valid : Valid (closeStringer W K n q l v)
   unfolding closeStringer
-  close-stringer-valid =
-      record {
-        front = ·-sound (·-sound (whole-sound _) sW) sK;
-        dead = ·-sound (·-sound (tenths-sound _) sq) (square-positive pl .sound);
-        divisor = ·-positive (·-positive pn pβ) (square-positive pl);
-      }
+  close-stringer-valid = bent-valid (whole-sound _) (tenths-sound _) sW sK pn sq pl pv
 
 module _ {W K n q l x : Fraction} (sW : Sound W) (sK : Sound K) (pn : Positive n) (sq : Sound q) (pl : Positive l) (px : Positive x) where
   pub cross-beam-valid : Valid (crossBeam W K n q l x)
@@ -84,17 +86,20 @@ module _ (l : Fraction) {front n q μ x Kₐ : Fraction} (sf : Sound front) (pn 
       }
 
 -- the permitted load never rises when the section falls from the second to the first, or the dead load rises
+bent-mono : (c g K n l v : Fraction) {W W' q q' : Fraction} → Valid (bent c g W K n q l v) → Valid (bent c g W' K n q' l v) → W ⊑ W' → q' ⊑ q →
+    permitted (bent c g W K n q l v) ≤ permitted (bent c g W' K n q' l v)
+bent-mono c g K n l v f f' hW hq =
+    permitted-mono _ _ f f' refl (·-mono (·-mono ⊑-refl hW) ⊑-refl) (·-mono (·-mono ⊑-refl hq) ⊑-refl)
+
 pub stringer-mono : (K n l Kₐ : Fraction) {W W' q q' : Fraction} → Valid (stringer W K n q l Kₐ) → Valid (stringer W' K n q' l Kₐ) → W ⊑ W' → q' ⊑ q →
     permitted (stringer W K n q l Kₐ) ≤ permitted (stringer W' K n q' l Kₐ)
 unfolding stringer
-stringer-mono K n l Kₐ v v' hW hq =
-    permitted-mono _ _ v v' refl (·-mono (·-mono ⊑-refl hW) ⊑-refl) (·-mono (·-mono ⊑-refl hq) ⊑-refl)
+stringer-mono K n l Kₐ = bent-mono _ _ K n l Kₐ
 
 pub close-stringer-mono : (K n l β : Fraction) {W W' q q' : Fraction} → Valid (closeStringer W K n q l β) → Valid (closeStringer W' K n q' l β) → W ⊑ W' → q' ⊑ q →
     permitted (closeStringer W K n q l β) ≤ permitted (closeStringer W' K n q' l β)
 unfolding closeStringer
-close-stringer-mono K n l β v v' hW hq =
-    permitted-mono _ _ v v' refl (·-mono (·-mono ⊑-refl hW) ⊑-refl) (·-mono (·-mono ⊑-refl hq) ⊑-refl)
+close-stringer-mono K n l β = bent-mono _ _ K n l β
 
 pub cross-beam-mono : (K n l x : Fraction) {W W' q q' : Fraction} → Valid (crossBeam W K n q l x) → Valid (crossBeam W' K n q' l x) → W ⊑ W' → q' ⊑ q →
     permitted (crossBeam W K n q l x) ≤ permitted (crossBeam W' K n q' l x)
