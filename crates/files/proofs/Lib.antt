@@ -1,4 +1,4 @@
--- Cited by other crates: `Surveys` and `Vehicles`, with the laws of their parts, and `Tests`.
+-- Cited by other crates: `Surveys`, `Vehicles` and `Yards`, with the laws of their parts, and `Tests`.
 pub mod Tests
 mod Tables
 mod Headers
@@ -8,3 +8,4 @@ pub mod Members
 pub mod Refusals
 pub mod Surveys
 pub mod Vehicles
+pub mod Yards

@@ -5,3 +5,4 @@ pub mod SurveyFile
 pub mod VehicleFile
 pub mod Allowed
 pub mod Refused
+pub mod YardFile

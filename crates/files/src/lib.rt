@@ -6,6 +6,7 @@ mod ranges;
 pub mod survey;
 pub mod vehicle;
 mod words;
+pub mod yard;
 
 use member::record::Survey;
 use member::record::Vehicle;

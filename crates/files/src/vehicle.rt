@@ -22,10 +22,10 @@ ghost use Rattle.member.specs.Fields.{MOST-AXLES};
 ghost use Rattle.files.specs.VehicleFile.{VEHICLE-HEADER, AXLE, AXLE-FIELDS, axlesOf, axleField, fieldWithin, axleFaults, vehicleHeader, vehicleOf, blankVehicle, readVehicle};
 
 // The letters, the version, class, track and count.
-const HEADER: usize = 9;
+pub const HEADER: usize = 9;
 
 // Weight and distance.
-const AXLE: usize = 4;
+pub const AXLE: usize = 4;
 
 // An axle's fields: its weight and its distance from the axle in front.
 const AXLE_FIELDS: usize = 2;

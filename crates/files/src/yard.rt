@@ -1,0 +1,23 @@
+// The vehicle files of a yard, which stand one behind the other.
+use crate::vehicle::AXLE;
+use crate::vehicle::HEADER;
+use crate::words::wide;
+ghost use mathlib.Core.Path.{_≡_};
+ghost use Prim.Native.Nat.{min};
+ghost use lib.ListN.{length};
+ghost use Rattle.files.specs.YardFile.{ownLength};
+
+// The most vehicles of a yard.
+pub const MOST_VEHICLES: usize = 32;
+
+// The length of the vehicle file at the head of these bytes: as its own count says, or all that is left.
+pub fn vehicle_length(bytes: &[u8]) -> usize
+    ensures { λ r. ⌜ r ≡ min (ownLength (now (bytes .entry))) (length (now (bytes .entry))) ⌝ }
+{
+    let left = bytes.len();
+    if left < HEADER {
+        return left;
+    }
+    let own = HEADER + AXLE * (wide(bytes[8]) as usize);
+    if own < left { own } else { left }
+}
