@@ -42,7 +42,7 @@ use Rattle.files.proofs.Tests.{first-is, rows-is, in-range, range-in, refutes}
 use Rattle.files.proofs.Surveys as surveys
 use Rattle.files.proofs.Vehicles as vehicles
 use Rattle.session.specs.Answers.{Outcome, Values, RefusedAt, refusedBy, judgementValues}
-use Rattle.session.specs.Calls.{newSession, members, stateFault, rateFault, judgeFault, loadSurvey, loadVehicle, storedSurvey, storedVehicle, unlessFault, rate, judge, judgeList, loadFiles, judgeFiles}
+use Rattle.session.specs.Calls.{newSession, members, stateFault, rateFault, judgeFault, loadSurvey, loadVehicle, storedSurvey, storedVehicle, unlessFault, rate, judge, judgeList, loadFiles, thenJudge, judgeFiles}
 use Rattle.session.specs.Demands.{Demand1, Demand2, Demand3}
 use Rattle.session.specs.Parts.{FromState, RefusedBoth, Answers, FilesAnswered, Covers, Falls, recordsOf}
 use Rattle.session.specs.History.{Holds, after}
@@ -166,7 +166,7 @@ all-answers s hm ha =
 
 files-answer : (survey vehicle : List ℕ) → AllowedSurveyFile survey → AllowedVehicleFile vehicle →
     judgeFiles survey vehicle .answer ≡ Values (judgementValues (judgementOf (members (record { survey = surveyOf survey; vehicle = vehicleOf vehicle })) (vehicleOf vehicle)))
-unfolding loadFiles judgeFiles judge
+unfolding loadFiles judgeFiles thenJudge judge
 files-answer survey vehicle a b =
     let e = surveys.allowed-taken survey a in
     let f = vehicles.allowed-taken vehicle b in

@@ -2,3 +2,6 @@ pub mod Demands
 pub mod History
 pub mod Loads
 pub mod State
+pub mod YardRuns
+pub mod YardTests
+pub mod YardWritten

@@ -23,12 +23,12 @@ use Rattle.files.proofs.Tests.{none, passed, in-range}
 use Rattle.files.proofs.Surveys.{taken-count, taken-members}
 use Rattle.files.proofs.Vehicles.{taken-vehicle-allowed}
 use Rattle.session.specs.Answers.{loaded, judged, judgeAnswer, refusedBy}
-use Rattle.session.specs.Calls.{Valid, newSession, stateFault, rateFault, judgeFault, loadSurvey, loadVehicle, judge, loadFiles, judgeFiles}
+use Rattle.session.specs.Calls.{Valid, newSession, stateFault, rateFault, judgeFault, loadSurvey, loadVehicle, judge, loadFiles, thenJudge}
 use Rattle.session.specs.declared.AfterJudge.{AfterJudge}
 use Rattle.session.specs.declared.AfterLoad.{AfterLoad}
 use Rattle.session.specs.declared.Session.{Session}
 
-not-none : (n : ℕ) → not (eqb n 0) ≡ true → 0 < n
+pub not-none : (n : ℕ) → not (eqb n 0) ≡ true → 0 < n
 not-none n h = go (eqb n 0) refl h
   where
     go : (t : Bool) → eqb n 0 ≡ t → not t ≡ true → 0 < n
@@ -102,7 +102,7 @@ pub vehicle-kept : (s : Session) (bytes : List ℕ) (r : VehicleRead) (f : Refus
 unfolding loadVehicle
 vehicle-kept s bytes r f e t = rw (e, rw e at t)
 
--- both loads, by the answer of the first, and the judgement, by that of both
+-- both loads, by the answer of the first
 module _ (survey vehicle : List ℕ) where
   pub first-refused : (o : AfterLoad) (f : Refusal) → loaded o ≡ loadSurvey newSession survey → o .answer ≡ Refused f →
       loaded o ≡ loadFiles survey vehicle
@@ -115,13 +115,12 @@ module _ (survey vehicle : List ℕ) where
   unfolding loadFiles
   second-loaded o p e t h = rw (h, ← e, t)
 
-  pub files-refused : (o : AfterLoad) (f : Refusal) → loaded o ≡ loadFiles survey vehicle → o .answer ≡ Refused f →
-      refusedBy f ≡ judgeFiles survey vehicle .answer
-  unfolding judgeFiles
-  files-refused o f e t = rw (← e, t)
+-- what a load left, judged: by its answer
+pub load-refused : (o : AfterLoad) (f : Refusal) → o .answer ≡ Refused f → refusedBy f ≡ thenJudge (loaded o) .answer
+unfolding thenJudge
+load-refused o f t = rw t
 
-  pub files-taken : (o : AfterLoad) (r : AfterJudge) → loaded o ≡ loadFiles survey vehicle → o .answer ≡ Taken →
-      judged r ≡ judge (o .session) (replicate (2 * MOST-MEMBERS) 0) →
-      judgeAnswer (r .answer) ≡ judgeFiles survey vehicle .answer
-  unfolding judgeFiles
-  files-taken o r e t j = rw (← e, t, ← j)
+pub load-judged : (o : AfterLoad) (r : AfterJudge) → o .answer ≡ Taken → judged r ≡ judge (o .session) (replicate (2 * MOST-MEMBERS) 0) →
+    judgeAnswer (r .answer) ≡ thenJudge (loaded o) .answer
+unfolding thenJudge
+load-judged o r t j = rw (t, ← j)

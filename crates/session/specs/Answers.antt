@@ -11,6 +11,7 @@ use Rattle.rating.specs.declared.judging.Verdict.the-variants.{Pass, Refuse}
 use Rattle.session.specs.declared.AfterJudge.{AfterJudge}
 use Rattle.session.specs.declared.AfterLoad.{AfterLoad}
 use Rattle.session.specs.declared.AfterRate.{AfterRate}
+use Rattle.session.specs.declared.yard.AfterYard.{AfterYard}
 use Rattle.session.specs.declared.Judged.{Judged}
 use Rattle.session.specs.declared.Judged.the-variants.{Figures}
 use Rattle.session.specs.declared.Judged.the-variants.{Refused as NotJudged}
@@ -18,6 +19,9 @@ use Rattle.session.specs.declared.Rated.{Rated}
 use Rattle.session.specs.declared.Rated.the-variants.{Loads}
 use Rattle.session.specs.declared.Rated.the-variants.{Refused as NotRated}
 use Rattle.session.specs.declared.Session.{Session}
+use Rattle.session.specs.declared.yard.YardJudged.{YardJudged}
+use Rattle.session.specs.declared.yard.YardJudged.the-variants.{Passes}
+use Rattle.session.specs.declared.yard.YardJudged.the-variants.{Refused as NotYard}
 
 -- The values of a call that succeeds, or a number of the list of refusals with its place. "A refusal carries its number and place,
 -- nothing else."
@@ -66,6 +70,11 @@ abbrev pub judgeAnswer : Judged → Answer
 judgeAnswer (Figures j) = Values (judgementValues j)
 judgeAnswer (NotJudged r) = refusedBy r
 
+-- document 02, request 3/13: "The number of passing vehicles comes back too"
+abbrev pub yardAnswer : YardJudged → Answer
+yardAnswer (Passes n) = Values (n ∷ [])
+yardAnswer (NotYard r) = refusedBy r
+
 -- what a call leaves and answers
 pub record Outcome : Type 0 where
   pub session : Session
@@ -79,3 +88,6 @@ rated r = record { session = r .session; answer = rateAnswer (r .answer) }
 
 abbrev pub judged : AfterJudge → Outcome
 judged r = record { session = r .session; answer = judgeAnswer (r .answer) }
+
+abbrev pub yardJudged : AfterYard → Outcome
+yardJudged r = record { session = r .session; answer = yardAnswer (r .answer) }

@@ -99,7 +99,11 @@ andThen o call = unlessRefused (o .answer) o (call (o .session))
 unfoldable pub loadFiles : (survey vehicle : List ℕ) → Outcome
 loadFiles survey vehicle = andThen (loadSurvey newSession survey) (λ s. loadVehicle s vehicle)
 
+-- judge after a load, with a list long enough for any survey
+unfoldable pub thenJudge : Outcome → Outcome
+thenJudge o = andThen o (λ s. judge s (replicate (2 * MOST-MEMBERS) 0))
+
 -- "calls the judgement on the bytes of both files. It gets the number and place of a refusal, the survey's before the vehicle's, or
--- figure, governing place and verdict": with a list long enough for any survey
+-- figure, governing place and verdict"
 unfoldable pub judgeFiles : (survey vehicle : List ℕ) → Outcome
-judgeFiles survey vehicle = andThen (loadFiles survey vehicle) (λ s. judge s (replicate (2 * MOST-MEMBERS) 0))
+judgeFiles survey vehicle = thenJudge (loadFiles survey vehicle)

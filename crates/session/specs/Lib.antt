@@ -1,5 +1,7 @@
 pub mod Answers
 pub mod Calls
+pub mod Yard
+pub mod YardRun
 pub mod History
 pub mod Parts
 pub mod Demands

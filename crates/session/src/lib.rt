@@ -4,7 +4,10 @@ ghost use mathlib.Core.Path.{_≡_};
 ghost use Rattle.session.specs.Answers.{loaded, rated, judged, judgeAnswer};
 ghost use Prim.Native.Nat.{_≤_};
 ghost use Rattle.member.specs.Fields.{MOST-MEMBERS};
-ghost use Rattle.session.specs.Calls.{Valid, newSession, loadSurvey, loadVehicle, stateFault, rateFault, judgeFault, rate, judge, judgeList, loadFiles, judgeFiles};
+ghost use Rattle.session.specs.Calls.{Valid, newSession, loadSurvey, loadVehicle, stateFault, rateFault, judgeFault, rate, judge, judgeList, loadFiles, thenJudge, judgeFiles};
+
+pub mod yard;
+
 use files::Reading;
 use files::Refusal;
 use files::survey::blank_survey;
@@ -219,17 +222,24 @@ pub fn load_files(survey: &[u8], vehicle: &[u8]) -> AfterLoad
     }
 }
 
-// The judgement on the bytes of both files: the refusal of the first that is refused, or figure, governing place and verdict.
-pub fn judge_files(survey: &[u8], vehicle: &[u8]) -> Judged
-    ensures { λ r. ⌜ judgeAnswer r ≡ judgeFiles (now (survey .entry)) (now (vehicle .entry)) .answer ⌝ }
+// Judges what a load left, unless it was refused. Only the judgement is wanted, so the list is one that is long enough for any survey.
+fn judge_loaded(after: AfterLoad) -> Judged
+    requires { ⌜ Valid (after .session) ⌝ }
+    ensures { λ r. ⌜ judgeAnswer r ≡ thenJudge (loaded after) .answer ⌝ }
 {
-    let both = load_files(survey, vehicle);
-    let answer = both.answer;
+    let answer = after.answer;
     if let Reading::Refused(refusal) = answer {
         return Judged::Refused(refusal);
     }
     let mut list = [0u64; 2 * MOST_MEMBERS];
-    let session = both.session;
+    let session = after.session;
     let judged = session.judge(&mut list);
     judged.answer
+}
+
+// The judgement on the bytes of both files: the refusal of the first that is refused, or figure, governing place and verdict.
+pub fn judge_files(survey: &[u8], vehicle: &[u8]) -> Judged
+    ensures { λ r. ⌜ judgeAnswer r ≡ judgeFiles (now (survey .entry)) (now (vehicle .entry)) .answer ⌝ }
+{
+    judge_loaded(load_files(survey, vehicle))
 }
