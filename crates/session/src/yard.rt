@@ -13,7 +13,7 @@ ghost use mathlib.Core.Path.{_≡_};
 ghost use Prim.Native.Nat.{_+_, _≤_, _<_};
 ghost use mathlib.Core.List.{_++_};
 ghost use lib.ListN.{length, take, drop, getD};
-ghost use Rattle.files.specs.YardFile.{MOST-VEHICLES};
+ghost use Rattle.files.specs.YardFile.{MOST-VEHICLES, vehiclesOf};
 ghost use Rattle.session.specs.Answers.{judgeAnswer, verdictNumber, yardJudged};
 ghost use Rattle.session.specs.Calls.{Valid};
 ghost use Rattle.files.specs.Reading.{firstOf};
@@ -192,26 +192,11 @@ fn refused(session: Session, refusal: Refusal, answers: [Judgement; MOST_VEHICLE
     }
 }
 
-// The answers of a yard's vehicles for a list with so much room, all tests made.
-pub fn yard_answers(session: Session, yard: &[u8], room: usize) -> YardAnswers
-    requires { ⌜ Valid session ⌝ }
+// What the run over the vehicles found, and what is behind them.
+fn found(session: Session, yard: &[u8], run: Run, count: usize, room: usize) -> YardAnswers
+    requires { ⌜ Valid session × (firstOf (frontTests (session .survey .count) (now yard)) ≡ 0) × (count ≡ vehiclesOf (now yard)) × Ran session (now yard) count run ⌝ }
     ensures { λ r. ⌜ Answered session (now (yard .entry)) room r ⌝ }
 {
-    let survey = session.survey;
-    let front = front_fault(survey.count, yard);
-    if front != 0 {
-        let none = no_vehicle().answers;
-        return refused(
-            session,
-            Refusal {
-                number: front,
-                place: 0,
-            },
-            none,
-        );
-    }
-    let count = wide(yard[0]);
-    let run = judge_each(session, yard, count);
     let answer = run.answer;
     let answers = run.answers;
     if let Reading::Refused(refusal) = answer {
@@ -237,6 +222,28 @@ pub fn yard_answers(session: Session, yard: &[u8], room: usize) -> YardAnswers
         count,
         answers,
     }
+}
+
+// The answers of a yard's vehicles for a list with so much room, all tests made.
+pub fn yard_answers(session: Session, yard: &[u8], room: usize) -> YardAnswers
+    requires { ⌜ Valid session ⌝ }
+    ensures { λ r. ⌜ Answered session (now (yard .entry)) room r ⌝ }
+{
+    let survey = session.survey;
+    let front = front_fault(survey.count, yard);
+    if front != 0 {
+        let none = no_vehicle().answers;
+        return refused(
+            session,
+            Refusal {
+                number: front,
+                place: 0,
+            },
+            none,
+        );
+    }
+    let count = wide(yard[0]);
+    found(session, yard, judge_each(session, yard, count), count, room)
 }
 
 // The answer of one vehicle.

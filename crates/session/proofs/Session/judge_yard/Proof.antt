@@ -49,6 +49,7 @@ use Rattle.rating.specs.declared.judging.Judgement.{Judgement}
 use Rattle.rating.proofs.judging.Judgement as T
 use Rattle.rating.proofs.judging.Judgement.Laws as T′
 use Rattle.session.specs.declared.Session.{Session}
+use Rattle.session.specs.declared.yard.AfterYard.{AfterYard}
 use Rattle.session.specs.declared.yard.YardAnswers.{YardAnswers}
 use Rattle.session.specs.Calls.{Valid}
 use Rattle.session.specs.YardRun.{Answered}
@@ -78,6 +79,19 @@ E = T.the-row
 
 abbrev stayed : Stays (judge-yard.ended .signature .params) (judge-yard.ended .kept)
 stayed = (stay-dropped (plain (λ _. S.the-row)) yes, (stay-dropped (shrSliceOf (0 ∷ []) tt (plain (λ _. u8))) yes, (gave-slice (1 ∷ []) tt (plain (λ _. E)), tt)))
+
+-- the types of the locals but those of self, of the result and of what is found
+abbrev word : Ty
+word = tyInt w64
+
+abbrev elem : Ty
+elem = pointee (E .written)
+
+abbrev list-at : Lifetime → Ty
+list-at ℓ = sliceTy (tyRef ℓ mut elem)
+
+abbrev bytes : Ty
+bytes = sliceTy (tyRef (named 0) imm (tyInt w8))
 
 -- the contracts that the proof cites
 module _ {M : Type 1} (𝓤 : URA M) (H : Heap 𝓤) (A : Atoms 𝓤) (mem : Memory → SProp 𝓤) (run : Routine → Fun 𝓤) where
@@ -131,7 +145,11 @@ module _ {M : Type 1} (𝓤 : URA M) (H : Heap 𝓤) (A : Atoms 𝓤) (W : Given
   abbrev Passed : Val → SProp 𝓤
   Passed = walkOf 𝓤 H A judge-yard.ended stayed (judge-yard.clauses 𝓤 H A mem run) .post bound
 
-  -- ---- the call of `work_out`
+  abbrev locals : (ρ σ F : Ty) (l₀ l₁ l₂ l₃ l₄ l₅ l₆ l₇ l₈ : ℕ) → Env 𝓤 H
+  locals ρ σ F l₀ l₁ l₂ l₃ l₄ l₅ l₆ l₇ l₈ =
+      (ρ, l₀) ∷ (σ, l₁) ∷ (bytes, l₂) ∷ (list-at (named 1), l₃) ∷ (F, l₄) ∷ (word, l₅) ∷ (tyUnit, l₆) ∷ (tyRef erased mut elem, l₇) ∷ (list-at erased, l₈) ∷ []
+
+  -- ---- what `yard_answers` asks
   abbrev worker : Session × (RefT (List ℕ) × (ℕ × Unit {0}))
   worker = (s, (d, (length ys, tt)))
 
@@ -182,33 +200,21 @@ module _ {M : Type 1} (𝓤 : URA M) (H : Heap 𝓤) (A : Atoms 𝓤) (W : Given
         move ! (1 ∷ 0 ∷ []) $ fjoin ! $ nothing ! $ fjoin ! $ nothing ! $ fjoin ! $ frame ! $ owned ! R.the-row (Is R.the-row) (LL.makes R.the-type R′.the-plain 𝓤 H A) (found .after) _ is-after $ done !
 
     -- the types of the result, of self and of what is found, whatever they are: the last is a struct whose fields are the result, the count and the answers
-    module _ (R Sₛ : Ty) (ν : Sym) (τs : Tys) (d₁ d₂ : ℕ) (field₀ : fieldAt zero τs 0 ≡ some′ (R, 0)) (field₁ : fieldAt zero τs 1 ≡ some′ (tyInt w64, d₁))
-        (field₂ : fieldAt zero τs 2 ≡ some′ (tyArray T′.mir MOST-VEHICLES, d₂)) (rv-typed : Holds (hasTy R rv) × WT rv)
+    module _ (ρ σ : Ty) (ν : Sym) (τs : Tys) (d₁ d₂ : ℕ) (field₀ : fieldAt zero τs 0 ≡ some′ (ρ, 0)) (field₁ : fieldAt zero τs 1 ≡ some′ (tyInt w64, d₁))
+        (field₂ : fieldAt zero τs 2 ≡ some′ (tyArray T′.mir MOST-VEHICLES, d₂)) (rv-typed : Holds (hasTy ρ rv) × WT rv)
         (C : Calls 𝓤 H) (Λ : Loops 𝓤 H) (fm : FmC 𝓤 H (W .laws) C) (known-put : Triple 𝓤 (C #put-all) (PutAll 𝓤 H A mem run)) (list-fits : length ys < 2 ^ 64)
         (l₀ l₁ l₂ l₃ l₄ l₅ l₆ l₇ l₈ : ℕ) where
       abbrev F : Ty
       F = tyStruct ν τs
 
-      abbrev word : Ty
-      word = tyInt w64
-
-      abbrev elem : Ty
-      elem = pointee (E .written)
-
-      abbrev list-at : Lifetime → Ty
-      list-at ℓ = sliceTy (tyRef ℓ mut elem)
-
-      abbrev bytes : Ty
-      bytes = sliceTy (tyRef (named 0) imm (tyInt w8))
-
       abbrev En : Env 𝓤 H
-      En = (R, l₀) ∷ (Sₛ, l₁) ∷ (bytes, l₂) ∷ (list-at (named 1), l₃) ∷ (F, l₄) ∷ (word, l₅) ∷ (tyUnit, l₆) ∷ (tyRef erased mut elem, l₇) ∷ (list-at erased, l₈) ∷ []
+      En = locals ρ σ F l₀ l₁ l₂ l₃ l₄ l₅ l₆ l₇ l₈
 
       -- the locals that neither call writes, and what is found
       abbrev Kept : List (Item 𝓤)
       Kept = ‵ (fat fullShare word l₅ 0 (vint w64 (length ys))) ∷ ‵ (fdies word l₅) ∷ ‵ (fat fullShare F l₄ 0 (vstruct (vcons rv (vcons cv (vcons av vnil))))) ∷ ‵ (fdies F l₄)
           ∷ ‵ (fat fullShare (list-at (named 1)) l₃ 0 lv) ∷ ‵ (fdies (list-at (named 1)) l₃) ∷ ‵ (fat fullShare bytes l₂ 0 bv) ∷ ‵ (fdies bytes l₂)
-          ∷ ‵ (fat fullShare Sₛ l₁ 0 sv) ∷ ‵ (fdies Sₛ l₁) ∷ ‵ (froom R l₀ 0) ∷ ‵ (fdies R l₀) ∷ []
+          ∷ ‵ (fat fullShare σ l₁ 0 sv) ∷ ‵ (fdies σ l₁) ∷ ‵ (froom ρ l₀ 0) ∷ ‵ (fdies ρ l₀) ∷ []
 
       -- what there is when `yard_answers` has returned
       abbrev Found : List (Item 𝓤)
@@ -272,30 +278,45 @@ module _ {M : Type 1} (𝓤 : URA M) (H : Heap 𝓤) (A : Atoms 𝓤) (W : Given
     found-is = ap only (LL.tells L.the-type L′.the-laws found (v ∷ []) is)
 
   module _ (C : Calls 𝓤 H) (Λ : Loops 𝓤 H) (fm : FmC 𝓤 H (W .laws) C) (known-answers : Triple 𝓤 (C #yard-answers) (YardAnswered 𝓤 H A mem run))
-      (known-put : Triple 𝓤 (C #put-all) (PutAll 𝓤 H A mem run)) where
-    walk : Is S.the-row s (sv ∷ []) → length (d .now) < 2 ^ 64 → length ys < 2 ^ 64 → Valid s
+      (known-put : Triple 𝓤 (C #put-all) (PutAll 𝓤 H A mem run)) (list-fits : length ys < 2 ^ 64) (ok : Valid s) where
+    -- ---- the call of `yard_answers`, with the types as above
+    module _ (ρ σ : Ty) (ν : Sym) (τs : Tys) (d₁ d₂ : ℕ) (field₀ : fieldAt zero τs 0 ≡ some′ (ρ, 0)) (field₁ : fieldAt zero τs 1 ≡ some′ (tyInt w64, d₁))
+        (field₂ : fieldAt zero τs 2 ≡ some′ (tyArray T′.mir MOST-VEHICLES, d₂)) (after-typed : (r : AfterYard) (v : Val) → Is R.the-row r (v ∷ []) → Holds (hasTy ρ v) × WT v)
+        (found-typed : (f : YardAnswers) (v : Val) → Is L.the-row f (v ∷ []) → Holds (hasTy (tyStruct ν τs) v) × WT v) (l₀ l₁ l₂ l₃ l₄ l₅ l₆ l₇ l₈ : ℕ) where
+      abbrev Enters : List (Item 𝓤)
+      Enters = ‵ (froom (list-at erased) l₈ 0) ∷ ‵ (fdies (list-at erased) l₈) ∷ ‵ (froom (tyRef erased mut elem) l₇ 0) ∷ ‵ (fdies (tyRef erased mut elem) l₇) ∷ ‵ (froom tyUnit l₆ 0) ∷ ‵ (fdies tyUnit l₆)
+          ∷ ‵ (froom word l₅ 0) ∷ ‵ (fdies word l₅) ∷ ‵ (froom (tyStruct ν τs) l₄ 0) ∷ ‵ (fdies (tyStruct ν τs) l₄) ∷ ‵ (fat fullShare (list-at (named 1)) l₃ 0 lv) ∷ ‵ (fdies (list-at (named 1)) l₃)
+          ∷ ‵ (fat fullShare bytes l₂ 0 bv) ∷ ‵ (fdies bytes l₂) ∷ ‵ (fat fullShare σ l₁ 0 sv) ∷ ‵ (fdies σ l₁) ∷ ‵ (froom ρ l₀ 0) ∷ ‵ (fdies ρ l₀)
+          ∷ (‵ (flft κ₀ q₀) ⊛ (‵ (flft κ₁ q₁) ⊛ ‵ ftrue)) ∷ ‵ (owns (S.the-row ∷ ShrSlice (named 0) κ₀ u8 ∷ MutSlice (named 1) κ₁ E ∷ []) a vss) ∷ []
+
+      finds : Sq W Enters (runs C Λ (locals ρ σ (tyStruct ν τs) l₀ l₁ l₂ l₃ l₄ l₅ l₆ l₇ l₈) code-mir.t-1 (atRet (locals ρ σ (tyStruct ν τs) l₀ l₁ l₂ l₃ l₄ l₅ l₆ l₇ l₈) Passed))
+      finds =
+          assigns ! (of-opd ! (load ! (from ! (fld ! refl (stop !))) (look-in ! 10 (sub ! 1 refl (whole !))))) (from ! (stop !)) (init ! 6 refl (tt, record { fits = list-fits })) $
+          move ! (19 ∷ []) $ fsplit ! $ move ! (1 ∷ []) $ fsplit ! $ move ! (1 ∷ []) $ fsplit ! $ move ! (22 ∷ []) $ split ! $ move ! (1 ∷ []) $ split ! $
+          -- [κ₁'s token; true; κ₀'s token; what list owns; true; what bytes owns; what self owns; _8; …]
+          move ! (2 ∷ 5 ∷ 6 ∷ []) $ use3 W (raw (YardAnswered 𝓤 H A mem run .pre to-work)) (asks-work ok list-fits) $
+          calls-at ! fm (YardAnswered 𝓤 H A mem run) known-answers to-work
+          (and-then ! (load ! (from ! (stop !)) (look ! 19 refl)) (and-then ! (load ! (from ! (stop !)) (look ! 17 refl)) (and-then ! (load ! (from ! (stop !)) (look ! 11 refl)) (no-more !)))) (λ v.
+          use1 W (later (some (λ (found : YardAnswers). ((‵ (flft κ₀ q₀) ⊛ ‵ ftrue) ⊛ ‵ (L.the-row .own found (v ∷ [])))
+          ⊛ raw (ensured 𝓤 H A yard-answers.ended (yard-answers.clauses 𝓤 H A mem run) (κ₀, tt) worker tt found)))) (id⊢ 𝓤 _) $ await ! tt $ pick ! (λ found.
+          split ! $ move ! (1 ∷ []) $ use1 W (raw (fact 𝓤 (Answered s (now d) (length ys) found))) (answered found) $ heard ! (Answered s (now d) (length ys) found) (λ w.
+          split ! $ move ! (1 ∷ []) $ facts ! L.the-row (Is L.the-row) (shows 𝓤 H A L.the-row) found (v ∷ []) (λ is.
+          -- [κ₀'s token; κ₁'s token; true; what list owns; true; _8; …; _7; …; _6; …; _5; …; _4; …; _3; …; _2; …; _1; …; _0; …]
+          land ! (from ! (stop !)) (init ! 13 refl (found-typed found v is)) $ rewrite ! 13 (λ (u : Val). ‵ (fat fullShare (tyStruct ν τs) l₄ 0 u)) (found-is found v is) refl $
+          puts found w (rv-of found v is) (av-of found v is) (after-is found v is) (count-is found v is) (answers-is found v is) ρ σ ν τs d₁ d₂ field₀ field₁ field₂
+          (after-typed (found .after) (rv-of found v is) (after-is found v is)) C Λ fm known-put list-fits l₀ l₁ l₂ l₃ l₄ l₅ l₆ l₇ l₈))))
+
+    walk : Is S.the-row s (sv ∷ []) → length (d .now) < 2 ^ 64
         → ent 𝓤 (onEntry 𝓤 H A judge-yard.signature (κ₀, (κ₁, tt)) (q₀, (q₁, tt)) a vss) (WpFn 𝓤 H C Λ code.function (sv ∷ bv ∷ lv ∷ []) Passed)
-    walk is-self bytes-fit list-fits ok =
+    walk is-self bytes-fit =
         qed W ((‵ (flft κ₀ q₀) ⊛ (‵ (flft κ₁ q₁) ⊛ ‵ ftrue)) ∷ ‵ (owns (S.the-row ∷ ShrSlice (named 0) κ₀ u8 ∷ MutSlice (named 1) κ₁ E ∷ []) a vss) ∷ []) ∵
         enter ! C Λ code.function (sv ∷ bv ∷ lv ∷ []) _ $
         alloc1 ! (λ l₀. alloc1 ! (λ l₁. alloc1 ! (λ l₂. alloc1 ! (λ l₃. alloc1 ! (λ l₄. alloc1 ! (λ l₅. alloc1 ! (λ l₆. alloc1 ! (λ l₇. alloc1 ! (λ l₈. alloc0 ! $ params1 ! $
         -- [_8; …; _7; …; _6; …; _5; …; _4; …; _3; …; _2; …; _1; …; _0; …; the tokens; what the parameters own]
         pass1 ! (init ! 14 refl (LL.lawful S.the-type S′.the-laws 𝓤 H A W .typed s _ is-self .0)) $ pass1 ! (init ! 12 refl (tt, (tt, (record { fits = bytes-fit }, tt)))) $
         pass1 ! (init ! 10 refl (tt, (tt, (record { fits = list-fits }, tt)))) $ pass0 ! $
-        assigns ! (of-opd ! (load ! (from ! (fld ! refl (stop !))) (look-in ! 10 (sub ! 1 refl (whole !))))) (from ! (stop !)) (init ! 6 refl (tt, record { fits = list-fits })) $
-        move ! (19 ∷ []) $ fsplit ! $ move ! (1 ∷ []) $ fsplit ! $ move ! (1 ∷ []) $ fsplit ! $ move ! (22 ∷ []) $ split ! $ move ! (1 ∷ []) $ split ! $
-        -- [κ₁'s token; true; κ₀'s token; what list owns; true; what bytes owns; what self owns; _8; …]
-        move ! (2 ∷ 5 ∷ 6 ∷ []) $ use3 W (raw (YardAnswered 𝓤 H A mem run .pre to-work)) (asks-work ok list-fits) $
-        calls-at ! fm (YardAnswered 𝓤 H A mem run) known-answers to-work
-        (and-then ! (load ! (from ! (stop !)) (look ! 19 refl)) (and-then ! (load ! (from ! (stop !)) (look ! 17 refl)) (and-then ! (load ! (from ! (stop !)) (look ! 11 refl)) (no-more !)))) (λ v.
-        use1 W (later (some (λ (found : YardAnswers). ((‵ (flft κ₀ q₀) ⊛ ‵ ftrue) ⊛ ‵ (L.the-row .own found (v ∷ []))) ⊛ raw (ensured 𝓤 H A yard-answers.ended (yard-answers.clauses 𝓤 H A mem run) (κ₀, tt) worker tt found))))
-        (id⊢ 𝓤 _) $ await ! tt $ pick ! (λ found.
-        split ! $ move ! (1 ∷ []) $ use1 W (raw (fact 𝓤 (Answered s (now d) (length ys) found))) (answered found) $ heard ! (Answered s (now d) (length ys) found) (λ w.
-        split ! $ move ! (1 ∷ []) $ facts ! L.the-row (Is L.the-row) (shows 𝓤 H A L.the-row) found (v ∷ []) (λ is.
-        -- [κ₀'s token; κ₁'s token; true; what list owns; true; _8; …; _7; …; _6; …; _5; …; _4; …; _3; …; _2; …; _1; …; _0; …]
-        land ! (from ! (stop !)) (init ! 13 refl (LL.lawful L.the-type L′.the-laws 𝓤 H A W .typed found _ is .0)) $ rewrite ! 13 (λ (u : Val). ‵ (fat fullShare L′.mir l₄ 0 u)) (found-is found v is) refl $
-        puts found w (rv-of found v is) (av-of found v is) (after-is found v is) (count-is found v is) (answers-is found v is) R′.mir S′.mir _ _ _ _ refl refl refl
-        (LL.lawful R.the-type R′.the-laws 𝓤 H A W .typed (found .after) _ (after-is found v is) .0) C Λ fm known-put list-fits l₀ l₁ l₂ l₃ l₄ l₅ l₆ l₇ l₈)))))))))))))
+        finds R′.mir S′.mir _ _ _ _ refl refl refl (λ r v is. LL.lawful R.the-type R′.the-laws 𝓤 H A W .typed r (v ∷ []) is .0)
+        (λ f v is. LL.lawful L.the-type L′.the-laws 𝓤 H A W .typed f (v ∷ []) is .0) l₀ l₁ l₂ l₃ l₄ l₅ l₆ l₇ l₈)))))))))
 
 module _ {M : Type 1} (𝓤 : URA M) (H : Heap 𝓤) (A : Atoms 𝓤) (W : Given 𝓤 H A) (mem : Memory → SProp 𝓤) (run : Routine → Fun 𝓤) where
   judge-yard-walks : (C : Calls 𝓤 H) (Λ : Loops 𝓤 H) → FmC 𝓤 H (W .laws) C → Triple 𝓤 (C #yard-answers) (YardAnswered 𝓤 H A mem run) → Triple 𝓤 (C #put-all) (PutAll 𝓤 H A mem run)
@@ -304,7 +325,7 @@ module _ {M : Type 1} (𝓤 : URA M) (H : Heap 𝓤) (A : Atoms 𝓤) (W : Given
       (λ κs. (LL.vals S.the-type S′.the-laws, (slice-vals, (slice-vals, tt))))
       (λ κs. (LL.tells S.the-type S′.the-laws, (shr-slice-tells (named 0) (κs .0) u8, (mut-slice-tells (named 1) (κs .1 .0) E, tt))))
       (λ κs qs bounds a g are. needs 𝓤 (Valid (a .0)) _ (λ ok. walk 𝓤 H A W mem run (κs .0) (κs .1 .0) (qs .0) (qs .1 .0) (a .0) (LL.val S.the-type S′.the-laws (a .0)) (a .1 .0)
-      (a .1 .1 .0 .ptr .0) (a .1 .1 .0 .ptr .1) (a .1 .1 .0 .name) (a .1 .1 .0 .now) C Λ fm known-answers known-put (are .0) (are .1 .0 .0 .1 .0) (are .1 .1 .0 .0 .1 .0) ok))
+      (a .1 .1 .0 .ptr .0) (a .1 .1 .0 .ptr .1) (a .1 .1 .0 .name) (a .1 .1 .0 .now) C Λ fm known-answers known-put (are .1 .1 .0 .0 .1 .0) ok (are .0) (are .1 .0 .0 .1 .0)))
 
 judge-yard-meets : {M : Type 1} (𝓤 : URA M) (H : Heap 𝓤) (A : Atoms 𝓤) (W : Given 𝓤 H A) (mem : Memory → SProp 𝓤) (run : Routine → Fun 𝓤) (𝓣 : Tables 𝓤 H)
     → Triple 𝓤 (𝓣 .C #yard-answers) (YardAnswered 𝓤 H A mem run) → Triple 𝓤 (𝓣 .C #put-all) (PutAll 𝓤 H A mem run)

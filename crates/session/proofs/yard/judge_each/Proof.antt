@@ -16,7 +16,7 @@ abbrev μ-loop : tie.MeasureT-loop
 μ-loop session yard count run₀ i₀ run i = count - i
 
 no-vehicle-requires : tie.Need-no-vehicle-requires Inv-loop μ-loop
-no-vehicle-requires c κs = search needs
+no-vehicle-requires c κs = tt
 
 loop-holds : tie.Need-loop-holds Inv-loop μ-loop
 loop-holds c =

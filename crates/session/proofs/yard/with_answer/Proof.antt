@@ -16,7 +16,7 @@ array-set-from-answers : tie.Need-array-set-from-answers
 array-set-from-answers c = search needs
 
 verdict-number-requires : tie.Need-verdict-number-requires
-verdict-number-requires c κs = search needs
+verdict-number-requires c κs = tt
 
 add-t15 : tie.Need-add-t15
 add-t15 c = omega (arith, c .before .verdict-number .ensures, verdict-small (c .before .before .before .judged .given .0 .0 .verdict), c .before .before .before .before .before .before .pre)

@@ -31,7 +31,7 @@ part-vehicle-length-end : tie.Need-part-vehicle-length-end
 part-vehicle-length-end c = search needs
 
 vehicle-length-requires : tie.Need-vehicle-length-requires
-vehicle-length-requires c κs = search needs
+vehicle-length-requires c κs = tt
 
 add-end : tie.Need-add-end
 add-end c = search needs
