@@ -49,7 +49,8 @@ use Rattle.session.specs.History.{Holds, after}
 use Rattle.session.specs.declared.Session.{Session}
 use Rattle.session.proofs.History.{survey-stays, vehicle-stays, survey-last, last-held, in-turn, in-reverse, calls-valid}
 use Rattle.session.proofs.Loads.{never-both, reading-case, survey-read, vehicle-read, survey-load, vehicle-load, survey-refused, vehicle-refused, other-survey}
-use Rattle.session.proofs.State.{taken-survey-allowed, valid-new}
+use Rattle.session.proofs.State.{taken-survey-allowed, valid-new, judge-ready, all-answers}
+use Rattle.session.proofs.YardLaws.{yard-answered, yard-taken}
 
 -- a fault is an answer from the state, or there is none
 fault-answer : (numbers : ℕ → Type 0) (n : ℕ) (values : List ℕ) → (n ≡ 0) ⊎ numbers n → FromState numbers (unlessFault n values)
@@ -141,27 +142,7 @@ demand1 =
       rate-keeps = λ s place. refl;
       judge-keeps = λ s list. refl;
       list-kept = list-untouched;
-    }
-
--- no fault where both files are loaded and the place, or the list, is right
-rate-ready : (members axles place : ℕ) → 0 < members → 0 < axles → In (1 ‥ members) place → rateFault members axles place ≡ 0
-unfolding rateFault stateFault
-rate-ready members axles place hm ha hp =
-    rw (ne-eqb members 0 (omega arith), ne-eqb axles 0 (omega arith), range-in (1 ‥ members) place hp)
-
-judge-ready : (members axles entries : ℕ) → 0 < members → 0 < axles → 2 * members ≤ entries → judgeFault members axles entries ≡ 0
-unfolding judgeFault stateFault
-judge-ready members axles entries hm ha he =
-    rw (ne-eqb members 0 (omega arith), ne-eqb axles 0 (omega arith), le-leb (2 * members) entries he)
-
-all-answers : (s : Session) → 0 < s .survey .count → 0 < s .vehicle .axles → Answers s
-unfolding rate judge judgeList
-all-answers s hm ha =
-    record {
-      rated = λ i h.
-          rw (rate-ready (s .survey .count) (s .vehicle .axles) (i + 1) hm ha (omega arith), add-sub-cancel i 1);
-      judged = λ list h. rw (judge-ready (s .survey .count) (s .vehicle .axles) (length list) hm ha h);
-      listed = λ list h. rw (judge-ready (s .survey .count) (s .vehicle .axles) (length list) hm ha h);
+      yard-answered = yard-answered;
     }
 
 files-answer : (survey vehicle : List ℕ) → AllowedSurveyFile survey → AllowedVehicleFile vehicle →
@@ -195,6 +176,7 @@ demand2 =
             first = first .before;
           };
       files-judged = files-answer;
+      yard-judged = yard-taken;
     }
 
 -- both loads of two files: where they are taken the survey is allowed, and is what the session then holds

@@ -5,3 +5,4 @@ pub mod State
 pub mod YardRuns
 pub mod YardTests
 pub mod YardWritten
+pub mod YardLaws

@@ -1,15 +1,16 @@
 -- What the tests of the state say where they find no fault, and that every call leaves a valid session.
 -- Assumes nothing.
-use Prim.Native.Nat.{ℕ, _*_, _≤_, _<_}
+use Prim.Native.Nat.{ℕ, _+_, _*_, _≤_, _<_}
 use mathlib.Core.Path.{_≡_, refl}
 use mathlib.Core.Bool.{Bool, true, false, not}
 use mathlib.Core.List.{List, [], _∷_}
 use native.Mathlib.Decide.{decLe}
+use native.Mathlib.Nat.{add-sub-cancel}
 use native.Mathlib.Omega.{arith}
 use Rattle.member.specs.Fields.{MOST-MEMBERS}
 use lib.Dec.{eqb, leb}
-use lib.ListN.{replicate}
-use borrow.Author.Tests.{eqb-false, leb-true}
+use lib.ListN.{length, replicate}
+use borrow.Author.Tests.{ne-eqb, eqb-false, le-leb, leb-true}
 use Rattle.member.specs.Format.{In, _‥_}
 use Rattle.rating.specs.Surveyed.{AllowedSurvey}
 use Rattle.files.specs.Reading.{_unless_, isIn}
@@ -19,11 +20,12 @@ use Rattle.files.specs.declared.Reading.the-variants.{Taken, Refused}
 use Rattle.files.specs.declared.Refusal.{Refusal}
 use Rattle.files.specs.declared.SurveyRead.{SurveyRead}
 use Rattle.files.specs.declared.VehicleRead.{VehicleRead}
-use Rattle.files.proofs.Tests.{none, passed, in-range}
+use Rattle.files.proofs.Tests.{none, passed, in-range, range-in}
 use Rattle.files.proofs.Surveys.{taken-count, taken-members}
 use Rattle.files.proofs.Vehicles.{taken-vehicle-allowed}
 use Rattle.session.specs.Answers.{loaded, judged, judgeAnswer, refusedBy}
-use Rattle.session.specs.Calls.{Valid, newSession, stateFault, rateFault, judgeFault, loadSurvey, loadVehicle, judge, loadFiles, thenJudge}
+use Rattle.session.specs.Calls.{Valid, newSession, stateFault, rateFault, judgeFault, loadSurvey, loadVehicle, rate, judge, judgeList, loadFiles, thenJudge}
+use Rattle.session.specs.Parts.{Answers}
 use Rattle.session.specs.declared.AfterJudge.{AfterJudge}
 use Rattle.session.specs.declared.AfterLoad.{AfterLoad}
 use Rattle.session.specs.declared.Session.{Session}
@@ -124,3 +126,24 @@ pub load-judged : (o : AfterLoad) (r : AfterJudge) → o .answer ≡ Taken → j
     judgeAnswer (r .answer) ≡ thenJudge (loaded o) .answer
 unfolding thenJudge
 load-judged o r t j = rw (t, ← j)
+
+-- no fault where both files are loaded and the place, or the list, is right
+rate-ready : (members axles place : ℕ) → 0 < members → 0 < axles → In (1 ‥ members) place → rateFault members axles place ≡ 0
+unfolding rateFault stateFault
+rate-ready members axles place hm ha hp =
+    rw (ne-eqb members 0 (omega arith), ne-eqb axles 0 (omega arith), range-in (1 ‥ members) place hp)
+
+pub judge-ready : (members axles entries : ℕ) → 0 < members → 0 < axles → 2 * members ≤ entries → judgeFault members axles entries ≡ 0
+unfolding judgeFault stateFault
+judge-ready members axles entries hm ha he =
+    rw (ne-eqb members 0 (omega arith), ne-eqb axles 0 (omega arith), le-leb (2 * members) entries he)
+
+pub all-answers : (s : Session) → 0 < s .survey .count → 0 < s .vehicle .axles → Answers s
+unfolding rate judge judgeList
+all-answers s hm ha =
+    record {
+      rated = λ i h.
+          rw (rate-ready (s .survey .count) (s .vehicle .axles) (i + 1) hm ha (omega arith), add-sub-cancel i 1);
+      judged = λ list h. rw (judge-ready (s .survey .count) (s .vehicle .axles) (length list) hm ha h);
+      listed = λ list h. rw (judge-ready (s .survey .count) (s .vehicle .axles) (length list) hm ha h);
+    }

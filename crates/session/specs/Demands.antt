@@ -22,6 +22,8 @@ use Rattle.session.specs.Answers.{Values, RefusedAt, refusedBy, judgemen
 use Rattle.session.specs.Calls.{Valid, newSession, members, loadSurvey, loadVehicle, rate, judge, judgeList, judgeFiles}
 use Rattle.session.specs.History.{Call, LoadSurvey, LoadVehicle, after, TakesSurvey, TakesVehicle, NoneTakes, LastTakes, TakenLast, Holds}
 use Rattle.session.specs.Parts.{FromState, RefusedBoth, Answers, FilesAnswered, Governs, Covers, Falls, permittedAt, vehicleLoadAt, judgementIn, recordsOf}
+use Rattle.session.specs.Yard.{Entry}
+use Rattle.session.specs.YardCall.{YardAnswered, YardTaken}
 use Rattle.session.specs.declared.Session.{Session}
 
 -- Demand 1. "Every call ends" is what the checker shows of every function that it accepts; the calls below are total.
@@ -54,6 +56,8 @@ pub record Demand1 : Type 0 where
   pub judge-keeps : (s : Session) (list : List ℕ) → judge s list .session ≡ s
   pub list-kept : (s : Session) (list : List ℕ) (n p : ℕ) →
       judge s list .answer ≡ RefusedAt n p → judgeList s list ≡ list
+  -- the same of the yard's call, document 02, request 3/13
+  pub yard-answered : (s : Session) → Valid s → (yard : List ℕ) (list : List Entry) → YardAnswered s yard list
 
 -- Demand 2.
 pub record Demand2 : Type 0 where
@@ -71,6 +75,8 @@ pub record Demand2 : Type 0 where
   -- the same on the bytes of both files
   pub files-judged : (survey vehicle : List ℕ) → AllowedSurveyFile survey → AllowedVehicleFile vehicle →
       judgeFiles survey vehicle .answer ≡ Values (judgementValues (judgementIn (record { survey = surveyOf survey; vehicle = vehicleOf vehicle })))
+  -- and of the yard, document 02, request 3/13: "Every answer is that of loading that vehicle alone and judging."
+  pub yard-judged : (s : Session) → Valid s → (yard : List ℕ) (list : List Entry) → YardTaken s yard list
 
 -- Demand 3.
 pub record Demand3 : Type 0 where
