@@ -3,7 +3,7 @@ use mathlib.Core.Path.{_≡_, refl}
 use Prim.Native.Nat.{ℕ, zero, suc}
 use mathlib.Core.List.{List, [], _∷_}
 use lib.ListN.{getD}
-use borrow.Author.Needs.{needs}
+use native.Mathlib.Omega.{arith}
 use Rattle.session.proofs.yard.answer_at.Statement.{statement}
 use Rattle.session.proofs.yard.answer_at.Tie as tie
 
@@ -14,10 +14,10 @@ twice (x ∷ xs) zero d = refl
 twice (x ∷ xs) (suc i) d = twice xs i d
 
 mul-result : tie.Need-mul-result
-mul-result c = search needs
+mul-result c = omega arith
 
 array-copy-out-result : tie.Need-array-copy-out-result
-array-copy-out-result c = search needs
+array-copy-out-result c = omega arith
 
 returns : tie.Need-returns
 returns c = twice (c .before .args .t1) (c .before .args .i) _
