@@ -39,9 +39,14 @@ pub fn rate(member: &Member, vehicle: &Vehicle) -> Rated {
     Rated { permitted: permitted_load(member, vehicle), vehicle: vehicle_load(member, vehicle) }
 }
 
-/// The judgement: both files read, the survey first, and every member rated.
+/// The judgement of members under a vehicle: every member rated.
+pub fn judge_members(members: &[Member], vehicle: &Vehicle) -> Judged {
+    bridge(members.iter().map(|member| rate(member, vehicle)).collect())
+}
+
+/// The judgement: both files read, the survey first.
 pub fn judge(survey: &[u8], vehicle: &[u8]) -> Result<Judged, Refused> {
     let members = reader::survey(survey)?;
     let vehicle = reader::vehicle(vehicle)?;
-    Ok(bridge(members.iter().map(|member| rate(member, &vehicle)).collect()))
+    Ok(judge_members(&members, &vehicle))
 }

@@ -1,4 +1,4 @@
-//! Document 01 and requests 1 and 2 of document 02 in plain Rust, written from the documents alone,
+//! Document 01 and requests 1 to 3 of document 02 in plain Rust, written from the documents alone,
 //! and a generator of files.
 //!
 //! The proved library is tested against it. It tries every position of the vehicle, counts in
@@ -14,9 +14,12 @@ pub mod layout;
 pub mod lines;
 pub mod permitted;
 pub mod reader;
+pub mod script;
 pub mod section;
 pub mod spread;
 pub mod twin;
+pub mod yard;
 
 pub use judge::{judge, Judged, Rated};
 pub use reader::{Axle, File, Member, Refused, Vehicle};
+pub use yard::{yard, Answer, Yard};

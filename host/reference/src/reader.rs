@@ -2,11 +2,12 @@
 
 use crate::layout::*;
 
-/// Which of the two files.
+/// Which file: a yard is vehicle files joined.
 #[derive(Clone, Copy, Debug, PartialEq, Eq)]
 pub enum File {
     Survey,
     Vehicle,
+    Yard,
 }
 
 /// A refused file: the number of the document's list and the place.

@@ -2,10 +2,10 @@
 //! stringers, wheels near and far apart, and the refusals that the ranges alone do not bring.
 
 use crate::records::*;
-use crate::script::Script;
 use crate::survey_faults::Turn;
 use reference::generate::VehicleWords;
 use reference::layout::*;
+use reference::script::Script;
 
 /// A log stringer over boards: diameter, rot and tiers; span and spacing; count, thickness and
 /// width of the boards and their rot. Pine, no dead load.

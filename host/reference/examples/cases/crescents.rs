@@ -2,10 +2,10 @@
 //! ranges alone do not bring.
 
 use crate::records::*;
-use crate::script::Script;
 use crate::survey_faults::Turn;
 use reference::crescent::{last_depth, GREATEST, LEAST};
 use reference::layout::*;
+use reference::script::Script;
 
 /// A stringer of the least span without dead load: its permitted load shows a tenth of a cm³.
 fn stringer(diameter: u16, depth: u16, tiers: u16) -> Words {

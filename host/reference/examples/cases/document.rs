@@ -1,8 +1,8 @@
 //! The document's own cases, ties and verdicts.
 
 use crate::records::*;
-use crate::script::Script;
 use reference::layout::*;
+use reference::script::Script;
 
 /// Case A with this rot.
 fn stringer(rot: u16) -> Words {

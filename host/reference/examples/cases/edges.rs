@@ -2,9 +2,9 @@
 //! term of the dowels, and bridges at the limit, under light and heavy vehicles.
 
 use crate::records::*;
-use crate::script::Script;
 use reference::generate::{at_the_limit, Random, VehicleWords};
 use reference::layout::*;
+use reference::script::Script;
 
 /// A record whose x is inside the span, where it is a distance from the support.
 fn sound(mut words: Words) -> Words {

@@ -7,12 +7,11 @@ mod crescents;
 mod document;
 mod edges;
 mod records;
-mod script;
 mod state;
 mod survey_faults;
 mod vehicle_faults;
 
-use script::Script;
+use reference::script::Script;
 use std::path::PathBuf;
 
 /// All cases, in the order of the script.

@@ -1,8 +1,8 @@
 //! 11 to 14 in every order of state, lists of every length, and what refused loads keep.
 
 use crate::records::*;
-use crate::script::Script;
 use reference::layout::*;
+use reference::script::Script;
 
 /// Every call that looks at the state, with places and lists at the edges for so many members.
 fn calls(script: &mut Script, count: usize) {

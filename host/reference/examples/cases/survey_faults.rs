@@ -1,8 +1,8 @@
 //! Every refusal of a survey, at the first, a middle and the last place.
 
 use crate::records::*;
-use crate::script::Script;
 use reference::layout::*;
+use reference::script::Script;
 
 fn headers(script: &mut Script) {
     let sound = survey_of(&three());

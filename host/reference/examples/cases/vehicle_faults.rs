@@ -1,8 +1,8 @@
 //! Every refusal of a vehicle: header, class and track, and each axle.
 
 use crate::records::*;
-use crate::script::Script;
 use reference::generate::VehicleWords;
+use reference::script::Script;
 
 fn headers(script: &mut Script) {
     let sound = vehicle_of(&case_l());

@@ -121,7 +121,7 @@ pub fn damage_vehicle(random: &mut Random, words: &mut VehicleWords, damage: Veh
 }
 
 /// Cut short, lengthened, or with one byte changed: often within the header.
-fn spoil(random: &mut Random, bytes: &mut Vec<u8>) {
+pub(super) fn spoil(random: &mut Random, bytes: &mut Vec<u8>) {
     match random.below(5) {
         0 => bytes.truncate(random.below(bytes.len() + 1)),
         1 => {

@@ -8,6 +8,7 @@ mod random;
 mod survey;
 mod vehicle;
 mod worse;
+mod yard;
 
 pub use brink::at_the_limit;
 pub use corners::corners;
@@ -17,3 +18,4 @@ pub use random::Random;
 pub use survey::{full_survey, is_rot, survey, survey_bytes, Spread};
 pub use vehicle::{vehicle, vehicle_bytes, AxleWords, VehicleWords};
 pub use worse::{worse_survey, worse_vehicle, Wear};
+pub use yard::{damaged_yards, joined, some_yard_damage, yard, yard_bytes, DamagedYard};

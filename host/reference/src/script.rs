@@ -1,7 +1,13 @@
-//! A script of calls on a session, with the answers by the documents.
+//! A script of calls on a session for the program `cases`, with the answers by the documents.
 
-use reference::{judge, reader, Member, Rated, Refused, Vehicle};
+use crate::{judge, reader, yard, Answer, Judged, Member, Rated, Refused, Vehicle};
 use std::fmt::Write;
+
+/// The program takes scripts that are shorter than this.
+pub const SPACE: usize = 262_144;
+
+/// The most entries of a list that the program lends for a yard.
+const MOST_ANSWERS: usize = 40;
 
 /// Entry i of a lent list holds KNOWN + i.
 const KNOWN: u64 = 1_000_000;
@@ -100,7 +106,7 @@ impl Script {
         self.print(&format!("rate {place} {answer}"));
     }
 
-    fn judged(&self, entries: usize) -> Result<reference::Judged, u64> {
+    fn judged(&self, entries: usize) -> Result<Judged, u64> {
         let (survey, members) = self.survey.as_ref().ok_or(11u64)?;
         let (vehicle, _) = self.vehicle.as_ref().ok_or(12u64)?;
         if entries < 2 * members.len() {
@@ -125,6 +131,33 @@ impl Script {
         };
         self.print(&format!("judge {answer}"));
         let list: String = list.iter().map(|entry| format!(" {entry}")).collect();
+        self.print(&format!("list{list}"));
+    }
+
+    /// The list filled with a yard's answers, and the number of passes.
+    fn fill(&self, bytes: &[u8], list: &mut [Answer]) -> Result<u64, Refused> {
+        let members = self.survey.as_ref().map(|(_, members)| &members[..]);
+        let judged = yard(members, bytes, list.len())?;
+        list.iter_mut().zip(judged.answers).for_each(|(entry, answer)| *entry = answer);
+        Ok(judged.passes)
+    }
+
+    /// Judges a yard with a list of so many answers; the whole list is printed as it is then.
+    pub fn yard(&mut self, bytes: &[u8], entries: usize) {
+        let lent = u16::try_from(entries).expect("a number of two bytes").to_le_bytes();
+        self.step(b'Y', lent.len() + bytes.len(), &[&lent, bytes].concat());
+        if entries > MOST_ANSWERS {
+            return self.print("no list is so long");
+        }
+        let known = |known| Answer { figure: known, governing: known, passes: false };
+        let mut list: Vec<Answer> = (KNOWN..).take(entries).map(known).collect();
+        let answer = match self.fill(bytes, &mut list) {
+            Ok(passes) => passes.to_string(),
+            Err(fault) => refused(fault.number, fault.place),
+        };
+        self.print(&format!("yard {answer}"));
+        let entry = |a: &Answer| format!(" {} {} {}", a.figure, a.governing, verdict(a.passes));
+        let list: String = list.iter().map(entry).collect();
         self.print(&format!("list{list}"));
     }
 
