@@ -10,6 +10,7 @@ mod records;
 mod state;
 mod survey_faults;
 mod vehicle_faults;
+mod yard;
 
 use reference::script::Script;
 use std::path::PathBuf;
@@ -24,6 +25,7 @@ fn script() -> Script {
     edges::cases(&mut script);
     crescents::cases(&mut script);
     close_stringers::cases(&mut script);
+    yard::cases(&mut script);
     script
 }
 
@@ -43,4 +45,5 @@ fn the_stored_script_is_this_one() {
     let script = script();
     assert!(stored("stdin") == script.bytes, "crates/cases/stdin is another script");
     assert!(stored("stdout") == script.text.as_bytes(), "crates/cases/stdout has other answers");
+    assert!(script.bytes.len() < reference::script::SPACE, "the program cases has no room for it");
 }
