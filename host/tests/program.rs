@@ -2,45 +2,13 @@
 
 mod common;
 
-use common::seed;
+use common::{programs, seed};
 use reference::generate::*;
 use reference::lines;
-use std::io::{ErrorKind, Write};
-use std::path::{Path, PathBuf};
-use std::process::{Command, Stdio};
-use std::sync::OnceLock;
-
-/// The program: TBR_BRIDGE where that is set, else the repository's own, made by `rt check bridge`
-/// where it is missing.
-fn bridge() -> &'static Path {
-    static BRIDGE: OnceLock<PathBuf> = OnceLock::new();
-    BRIDGE.get_or_init(|| {
-        if let Some(path) = std::env::var_os("TBR_BRIDGE") {
-            return PathBuf::from(path);
-        }
-        let root = Path::new(env!("CARGO_MANIFEST_DIR")).join("..");
-        let path = root.join("target/bin/bridge");
-        if !path.exists() {
-            let status = Command::new("rt").args(["check", "bridge"]).current_dir(root).status();
-            assert!(status.expect("rt cannot be run").success(), "rt check bridge failed");
-        }
-        path
-    })
-}
 
 /// What the program prints for this standard input.
 fn printed(input: &[u8]) -> String {
-    let mut command = Command::new(bridge());
-    command.stdin(Stdio::piped()).stdout(Stdio::piped());
-    let mut child = command.spawn().expect("the program cannot be run");
-    // It reads all of its input, but may not be held to that here.
-    let sent = child.stdin.take().expect("its standard input").write_all(input);
-    if let Err(error) = sent {
-        assert_eq!(error.kind(), ErrorKind::BrokenPipe, "{error}");
-    }
-    let output = child.wait_with_output().expect("the program's output");
-    assert!(output.status.success(), "{}", output.status);
-    String::from_utf8(output.stdout).expect("text")
+    programs::printed("bridge", input)
 }
 
 fn agree(input: &[u8], what: &str) {

@@ -1,6 +1,8 @@
 //! What the tests share: seeds, and the comparison with the reference.
 #![allow(dead_code, unused_imports)]
 
+pub mod programs;
+
 use reference::{File, Judged, Rated, Refused};
 use tbr::{Judgement, MemberLoads, Refusal, Which};
 

@@ -1,0 +1,182 @@
+//! The calls on a session against the reference: scripts of thousands of yards between other calls
+//! through the program `cases`, every line equal.
+
+mod common;
+
+use common::{programs, seed};
+use reference::generate::*;
+use reference::script::{Script, SPACE};
+use std::collections::BTreeMap;
+
+const SCRIPTS: u64 = 6;
+
+/// A round of calls is shorter than this: two files, ten yards and what is between them.
+const LONGEST_ROUND: usize = 30_000;
+
+fn spread(random: &mut Random) -> Spread {
+    if random.once_in(3) {
+        Spread::Wide
+    } else {
+        Spread::Usual
+    }
+}
+
+/// Mostly small surveys, as brute force is dear; now and then one that is refused.
+fn load_survey(random: &mut Random, script: &mut Script) {
+    let spread = spread(random);
+    let bytes = match random.below(24) {
+        0 => some_damage(random).0,
+        1 => survey_bytes(&full_survey(random, spread)),
+        _ => {
+            let members = 1 + random.below(4);
+            survey_bytes(&survey(random, spread, members))
+        }
+    };
+    script.survey(&bytes);
+}
+
+fn load_vehicle(random: &mut Random, script: &mut Script) {
+    let (spread, axles) = (spread(random), 1 + random.below(4));
+    let bytes = match random.below(6) {
+        0 => some_damage(random).1,
+        _ => vehicle_bytes(&vehicle(random, spread, axles)),
+    };
+    script.vehicle(&bytes);
+}
+
+/// A sound yard or a damaged one, with a list that holds it, just not, or much more.
+fn judge_yard(random: &mut Random, script: &mut Script) {
+    let spread = spread(random);
+    let (count, axles) = match random.below(40) {
+        0 => (32, 16),
+        1..=3 => (1 + random.below(32), 16),
+        4..=9 => (1 + random.below(32), 3),
+        _ => (1 + random.below(5), 4),
+    };
+    let yard = match random.below(3) {
+        0 => some_yard_damage(random, count),
+        _ => yard_bytes(&yard(random, spread, count, axles)),
+    };
+    let longest = [count - 1, count, count, count + 1, 40, random.below(41)];
+    script.yard(&yard, *random.pick(&longest));
+}
+
+/// Calls on one session: each load now and then, yards often.
+fn round(random: &mut Random, script: &mut Script) {
+    if random.once_in(4) {
+        script.start();
+    }
+    load_survey(random, script);
+    for _ in 0..1 + random.below(10) {
+        match random.below(12) {
+            0 => load_vehicle(random, script),
+            1 => script.rate(random.below(5)),
+            2 => script.judge(random.below(12)),
+            3 if random.once_in(4) => script.start(),
+            _ => judge_yard(random, script),
+        }
+    }
+    script.judge(8);
+}
+
+/// A script that nearly fills the program's space.
+fn script(seed: u64) -> Script {
+    let (mut random, mut script) = (Random::new(seed), Script::default());
+    while script.bytes.len() + LONGEST_ROUND < SPACE {
+        let before = script.bytes.len();
+        round(&mut random, &mut script);
+        assert!(script.bytes.len() - before < LONGEST_ROUND);
+    }
+    script
+}
+
+/// How often the yards of a script were answered in each way.
+fn count(seen: &mut BTreeMap<String, u64>, script: &Script) {
+    for line in script.text.lines().filter_map(|line| line.strip_prefix("yard ")) {
+        let taken = line.parse::<u64>().map(|passes| if passes == 0 { "none" } else { "some" });
+        *seen.entry(taken.unwrap_or(line).to_string()).or_default() += 1;
+    }
+}
+
+/// The scripts are worth something only if all answers are among them.
+#[test]
+fn the_scripts_have_every_answer() {
+    let first = seed(0x9a4d_1001);
+    let mut seen = BTreeMap::new();
+    (first..first + SCRIPTS).for_each(|seed| count(&mut seen, &script(seed)));
+    println!("{seen:?}");
+    assert!(seen.values().sum::<u64>() > 5000, "{seen:?}");
+    let refusals = ["1 at 0", "2 at 0", "3 at 0", "7 at 0", "7 at 1", "11 at 0", "14 at 0"];
+    let refusals = refusals.map(|refusal| format!("refused {refusal}"));
+    for what in refusals.iter().map(String::as_str).chain(["none", "some"]) {
+        assert!(seen.get(what).copied().unwrap_or(0) >= 20, "{what} is rare: {seen:?}");
+    }
+}
+
+fn agree(script: &Script, what: &str) {
+    let printed = programs::printed("cases", &script.bytes);
+    for ((line, expected), number) in printed.lines().zip(script.text.lines()).zip(1..) {
+        assert_eq!(line, expected, "{what}, line {number}");
+    }
+    assert_eq!(printed.len(), script.text.len(), "{what}");
+}
+
+#[test]
+fn thousands_of_yards() {
+    let first = seed(0x9a4d_1001);
+    for seed in first..first + SCRIPTS {
+        agree(&script(seed), &format!("TBR_SEED={seed}"));
+    }
+}
+
+/// One damage in each way at each place of a yard of 32 vehicles.
+#[test]
+fn damage_at_every_place() {
+    let seed = seed(0x9a4d_1002);
+    let mut random = Random::new(seed);
+    let survey = survey_bytes(&survey(&mut random, Spread::Usual, 1));
+    for yards in damaged_yards(&mut random).chunks(100) {
+        let mut script = Script::default();
+        script.survey(&survey);
+        yards.iter().for_each(|damaged| script.yard(&damaged.yard, 33));
+        assert!(script.bytes.len() < SPACE, "{} bytes", script.bytes.len());
+        agree(&script, &format!("TBR_SEED={seed}"));
+    }
+}
+
+/// Vehicles at the limit of a one-member bridge, 1 kgf more or less on an axle, joined.
+#[test]
+fn verdicts_turn_at_the_limit() {
+    let seed = seed(0x9a4d_1003);
+    let (mut random, mut script) = (Random::new(seed), Script::default());
+    while script.bytes.len() < 100_000 {
+        let Some((survey, limit)) = at_the_limit(&mut random) else { continue };
+        let mut vehicles = Vec::new();
+        for _ in 0..6 {
+            let mut vehicle = limit.clone();
+            let axle = random.below(vehicle.axles.len());
+            let weight = &mut vehicle.axles[axle][0];
+            *weight = (*weight + random.between(0, 2)).clamp(2, 60001) - 1;
+            vehicles.push(vehicle);
+        }
+        script.survey(&survey);
+        script.yard(&yard_bytes(&vehicles), 6);
+    }
+    agree(&script, &format!("TBR_SEED={seed}"));
+}
+
+/// Random bytes behind any count, some with the mark of a vehicle in front.
+#[test]
+fn any_bytes_as_a_yard() {
+    let seed = seed(0x9a4d_1004);
+    let (mut random, mut script) = (Random::new(seed), Script::default());
+    script.survey(&survey_bytes(&survey(&mut random, Spread::Usual, 2)));
+    while script.bytes.len() < 200_000 {
+        let count = [random.between(0, 40).to_le_bytes()[0]];
+        let file = any_bytes(&mut random, b"TBV", 80);
+        let more = any_bytes(&mut random, b"TBV", 80);
+        script.yard(&[&count, &file[..], &more].concat(), 3);
+        script.yard(&file, 3);
+    }
+    agree(&script, &format!("TBR_SEED={seed}"));
+}
