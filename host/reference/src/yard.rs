@@ -37,7 +37,7 @@ pub fn first_file(left: &[u8]) -> (&[u8], &[u8]) {
 /// bytes left over. The first faulty vehicle has its own refusal and place.
 pub fn vehicles(yard: &[u8]) -> Result<Vec<Vehicle>, Refused> {
     let (&count, mut left) = yard.split_first().ok_or(refused(File::Yard, 1))?;
-    if count < 1 || count > MOST_VEHICLES {
+    if !(1..=MOST_VEHICLES).contains(&count) {
         return Err(refused(File::Yard, 3));
     }
     let mut vehicles = Vec::new();

@@ -100,7 +100,7 @@ pub fn damaged_yards(random: &mut Random) -> Vec<DamagedYard> {
 }
 
 /// One damage of a yard, whatever was done to it before.
-fn damage(random: &mut Random, count: &mut usize, files: &mut Vec<Vec<u8>>) {
+fn damage(random: &mut Random, count: &mut usize, files: &mut [Vec<u8>]) {
     let i = random.below(files.len());
     match random.below(8) {
         0 => *count = *random.pick(&[0, MOST, MOST + 1, 255]),
