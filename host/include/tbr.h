@@ -1,8 +1,8 @@
 /*
  * Timber bridge rating after VSN 12-73: the proved functions, for C.
  *
- * Link libjudgement.a for tbr_judge and libexports.a for tbr_member_loads; they need nothing but
- * the C library (memcpy and memset).
+ * Link libjudgement.a for tbr_judge, and libexports.a for tbr_member_loads and tbr_yard; they need
+ * nothing but the C library (memcpy and memset).
  *
  * A slice is two arguments, a pointer and the number of elements that it points to. The pointer is
  * never NULL, also where the number is 0, and a pointer to uint64_t is aligned for one. The list
@@ -42,6 +42,18 @@ struct tbr_loads {
     uint64_t members;
 };
 
+/*
+ * What a yard gives. Where anything is refused, refusal is its number and place its member or axle,
+ * 0 where the fault is in none, and the rest is 0; the survey's refusal comes before the yard's.
+ * Else refusal and place are 0.
+ */
+struct tbr_yard_numbers {
+    uint64_t refusal;
+    uint64_t place;
+    uint64_t vehicles; /* the number of vehicles whose answers the list has */
+    uint64_t passes;   /* for so many of them the bridge passes */
+};
+
 /* Judges the bridge of a survey file for the vehicle of a vehicle file. Any bytes get an answer. */
 struct tbr_numbers tbr_judge(const uint8_t *survey, size_t survey_length,
                              const uint8_t *vehicle, size_t vehicle_length);
@@ -55,6 +67,25 @@ struct tbr_numbers tbr_judge(const uint8_t *survey, size_t survey_length,
 struct tbr_loads tbr_member_loads(const uint8_t *survey, size_t survey_length,
                                   const uint8_t *vehicle, size_t vehicle_length,
                                   uint64_t *list, size_t list_length);
+
+/*
+ * Judges the bridge of a survey file for every vehicle of a yard: a byte that says how many they
+ * are, 1 to 32, then so many vehicle files joined, each as long as its own byte 8 says (9 bytes and
+ * 4 an axle), or all that is left where that is fewer. Any bytes get an answer.
+ *
+ * Fills the list: figure, governing place and 1 where the bridge passes, 0 where it does not, of
+ * vehicle 1, then of vehicle 2, and so on; entries beyond are kept. Each is what tbr_judge gives
+ * for that vehicle alone. Where anything is refused the list is as it was. The order is:
+ *   the survey's own refusals;
+ *   number 1, place 0: the yard is empty;
+ *   number 3, place 0: its number of vehicles is not 1 to 32;
+ *   the first faulty vehicle's own refusal, with its axle as place, not its place in the yard;
+ *   number 1, place 0: bytes are left over behind the last vehicle;
+ *   number 14, place 0: the list is shorter than three entries a vehicle.
+ */
+struct tbr_yard_numbers tbr_yard(const uint8_t *survey, size_t survey_length,
+                                 const uint8_t *yard, size_t yard_length,
+                                 uint64_t *list, size_t list_length);
 
 #ifdef __cplusplus
 }

@@ -1,5 +1,5 @@
-//! The two files' layout: words of records to bytes and back. Nothing is checked here; the proved
-//! library says which files are taken.
+//! The files' layout: words of records to bytes and back, and vehicles joined to a yard. Nothing is
+//! checked here; the proved library says which files are taken.
 
 use crate::refusal::Which;
 
@@ -29,6 +29,12 @@ pub enum Contents {
 
 const SURVEY_HEADER: usize = 6;
 const VEHICLE_HEADER: usize = 9;
+/// Where a vehicle file has its count of axles, and the bytes of each.
+const AXLES_AT: usize = 8;
+const AXLE: usize = 4;
+
+/// A yard holds at most so many vehicles.
+pub const MOST_VEHICLES: u8 = 32;
 
 /// The whole records of `N` words behind a header.
 fn records<const N: usize>(bytes: &[u8], header: usize) -> Vec<[u16; N]> {
@@ -49,6 +55,28 @@ pub fn vehicle(bytes: &[u8]) -> Option<Vehicle> {
     let [_, _, _, _, _, class, track @ .., _] = bytes.first_chunk::<VEHICLE_HEADER>()?;
     let heading = [u16::from(*class), u16::from_le_bytes(*track)];
     Some(Vehicle { heading, axles: records(bytes, VEHICLE_HEADER) })
+}
+
+/// Vehicle files joined to a yard, behind their number; None where that is above what a byte holds.
+pub fn join_yard<T: AsRef<[u8]>>(vehicles: &[T]) -> Option<Vec<u8>> {
+    let mut yard = vec![u8::try_from(vehicles.len()).ok()?];
+    vehicles.iter().for_each(|file| yard.extend(file.as_ref()));
+    Some(yard)
+}
+
+/// The vehicle files of a yard: as many as its first byte says, each as long as its own count says,
+/// or all that is left where that is fewer. None where there is no such byte, or it says that there
+/// are none or more than a yard holds.
+pub fn split_yard(yard: &[u8]) -> Option<Vec<&[u8]>> {
+    let (count, mut left) = yard.split_first()?;
+    let mut files = Vec::new();
+    for _ in 0..*count {
+        let length = left.get(AXLES_AT).map(|axles| VEHICLE_HEADER + AXLE * usize::from(*axles));
+        let (file, behind) = left.split_at(length.unwrap_or(left.len()).min(left.len()));
+        files.push(file);
+        left = behind;
+    }
+    (1..=MOST_VEHICLES).contains(count).then_some(files)
 }
 
 fn push_words<'a>(bytes: &mut Vec<u8>, words: impl IntoIterator<Item = &'a u16>) {

@@ -2,7 +2,8 @@
 //!
 //! [`judge`] takes the bytes of a survey file and a vehicle file and gives the bridge's figure,
 //! the governing member and the verdict, or the refusal of a file; [`member_loads`] gives the two
-//! loads of every member. Each is a call of the proved library; no load is worked out here.
+//! loads of every member, and [`judge_yard`] judges up to 32 vehicles, joined to a yard by
+//! [`file::join_yard`]. Each is a call of the proved library; no load is worked out here.
 //!
 //! ```
 //! let survey = include_bytes!("../../samples/case-a.tbr");
@@ -20,6 +21,8 @@ pub mod form;
 
 mod judge;
 mod refusal;
+mod yard;
 
 pub use judge::{check_survey, check_vehicle, judge, member_loads, Judgement, MemberLoads};
-pub use refusal::{Refusal, Which};
+pub use refusal::{Refusal, Which, YardRefusal};
+pub use yard::{judge_yard, YardJudgement};

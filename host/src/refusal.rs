@@ -1,5 +1,6 @@
 //! A refused file, and every refusal number in words.
 
+use crate::file::MOST_VEHICLES;
 use crate::form::{Layout, ALL_SPECIES, KINDS};
 use std::fmt;
 
@@ -33,10 +34,17 @@ pub struct Refusal {
     pub place: u64,
 }
 
+const NO_WORDS: &str = "a refusal number that has no words here";
+
 impl Refusal {
     /// The file, the number and the record, without what the number means.
     pub fn heading(&self) -> String {
-        let heading = format!("{} refused, number {}", self.file, self.number);
+        self.heading_of(&self.file.to_string())
+    }
+
+    /// The same of a file that is called so.
+    fn heading_of(&self, name: &str) -> String {
+        let heading = format!("{name} refused, number {}", self.number);
         match self.place {
             0 => heading,
             place => format!("{heading} at {} {place}", self.file.layout().record),
@@ -68,7 +76,7 @@ impl Refusal {
                 "a field that the kind or the section does not use is not 0, \
                  or a beam in bending has lost area"
             }
-            _ => "a refusal number that has no words here",
+            _ => NO_WORDS,
         }
         .to_string()
     }
@@ -88,3 +96,83 @@ impl fmt::Debug for Refusal {
 }
 
 impl std::error::Error for Refusal {}
+
+/// Why a yard was not judged.
+#[derive(Clone, Copy, PartialEq, Eq)]
+pub enum YardRefusal {
+    /// The survey is refused.
+    Survey(Refusal),
+    /// A vehicle is: the first that is at fault.
+    Vehicle {
+        /// Its place in the yard, from 1.
+        vehicle: usize,
+        /// Its own refusal.
+        refusal: Refusal,
+    },
+    /// The yard is, and none of its vehicles.
+    Yard {
+        /// The number: 1 no vehicles' count, or bytes left over; 3 the count.
+        number: u64,
+        /// The place, which is 0.
+        place: u64,
+    },
+}
+
+impl YardRefusal {
+    /// The number of the refusal.
+    pub fn number(&self) -> u64 {
+        match self {
+            YardRefusal::Survey(refusal) | YardRefusal::Vehicle { refusal, .. } => refusal.number,
+            YardRefusal::Yard { number, .. } => *number,
+        }
+    }
+
+    /// The member or axle at fault, from 1; 0 where the fault is in none of them.
+    pub fn place(&self) -> u64 {
+        match self {
+            YardRefusal::Survey(refusal) | YardRefusal::Vehicle { refusal, .. } => refusal.place,
+            YardRefusal::Yard { place, .. } => *place,
+        }
+    }
+
+    /// What is refused, the number and the record, without what the number means.
+    pub fn heading(&self) -> String {
+        match self {
+            YardRefusal::Survey(refusal) => refusal.heading(),
+            YardRefusal::Vehicle { vehicle, refusal } => {
+                refusal.heading_of(&format!("{} {vehicle}", refusal.file))
+            }
+            YardRefusal::Yard { number, .. } => format!("yard refused, number {number}"),
+        }
+    }
+
+    /// What the number means, in words.
+    pub fn meaning(&self) -> String {
+        match self {
+            YardRefusal::Survey(refusal) | YardRefusal::Vehicle { refusal, .. } => {
+                refusal.meaning()
+            }
+            YardRefusal::Yard { number: 1, .. } => {
+                "it is empty, or bytes are left over behind its last vehicle".to_string()
+            }
+            YardRefusal::Yard { number: 3, .. } => {
+                format!("its count of vehicles is not 1 to {MOST_VEHICLES}")
+            }
+            YardRefusal::Yard { .. } => NO_WORDS.to_string(),
+        }
+    }
+}
+
+impl fmt::Display for YardRefusal {
+    fn fmt(&self, f: &mut fmt::Formatter) -> fmt::Result {
+        write!(f, "{}: {}", self.heading(), self.meaning())
+    }
+}
+
+impl fmt::Debug for YardRefusal {
+    fn fmt(&self, f: &mut fmt::Formatter) -> fmt::Result {
+        fmt::Display::fmt(self, f)
+    }
+}
+
+impl std::error::Error for YardRefusal {}

@@ -28,8 +28,16 @@ fn compiled(folder: &Folder) -> Option<PathBuf> {
     Some(program)
 }
 
-/// What the program must print, by the Rust functions.
-fn expected(survey: &[u8], vehicle: &[u8], entries: usize) -> String {
+/// A list of so many entries with these in front, as the program prints it.
+fn list(entries: usize, written: impl Iterator<Item = u64>) -> String {
+    let mut list: Vec<u64> = (1_000_000..).take(entries).collect();
+    list.iter_mut().zip(written).for_each(|(entry, number)| *entry = number);
+    let list: String = list.iter().map(|entry| format!(" {entry}")).collect();
+    format!("list{list}\n")
+}
+
+/// What the program must print of both files, by the Rust functions.
+fn of_files(survey: &[u8], vehicle: &[u8], entries: usize) -> String {
     let numbers = match tbr::judge(survey, vehicle) {
         Ok(j) => format!("0 0 {} {} {}", j.figure, j.governing, u8::from(j.passes)),
         Err(refusal) => format!("{} {} 0 0 0", refusal.number, refusal.place),
@@ -39,11 +47,22 @@ fn expected(survey: &[u8], vehicle: &[u8], entries: usize) -> String {
         true => ("14 0 0 0 0", &[][..]),
         false => (&numbers[..], &members[..]),
     };
-    let mut list: Vec<u64> = (1_000_000..).take(entries).collect();
     let pairs = members.iter().flat_map(|member| [member.permitted, member.vehicle]);
-    list.iter_mut().zip(pairs).for_each(|(entry, load)| *entry = load);
-    let list: String = list.iter().map(|entry| format!(" {entry}")).collect();
-    format!("judge {numbers}\nloads {loads}\nmembers {}\nlist{list}\n", members.len())
+    let list = list(entries, pairs);
+    format!("judge {numbers}\nloads {loads}\nmembers {}\n{list}", members.len())
+}
+
+/// The same of survey and yard.
+fn of_yard(survey: &[u8], yard: &[u8], entries: usize) -> String {
+    let (numbers, judgements) = match tbr::judge_yard(survey, yard) {
+        Ok(judged) if entries < 3 * judged.judgements.len() => ("14 0 0 0".to_string(), Vec::new()),
+        Ok(judged) => {
+            (format!("0 0 {} {}", judged.judgements.len(), judged.passes), judged.judgements)
+        }
+        Err(refusal) => (format!("{} {} 0 0", refusal.number(), refusal.place()), Vec::new()),
+    };
+    let answers = judgements.iter().flat_map(|j| [j.figure, j.governing, u64::from(j.passes)]);
+    format!("yard {numbers}\n{}", list(entries, answers))
 }
 
 #[test]
@@ -54,14 +73,24 @@ fn a_c_program_gets_the_same() {
     let fits = 2 * usize::from(survey[5]);
     let mut marked = vehicle.clone();
     marked[0] = b'?';
-    let files = [(&survey, &vehicle), (&vehicle, &vehicle), (&survey, &marked), (&survey, &survey)];
-    for (survey, vehicle) in files {
-        for entries in [0, fits - 1, fits, fits + 3] {
-            let paths = [folder.file("survey", survey), folder.file("vehicle", vehicle)];
+    let joined = |files: &[&Vec<u8>]| tbr::file::join_yard(files).unwrap();
+    let yard = joined(&[&vehicle, &sample("case-l.tbv"), &vehicle, &vehicle, &vehicle]);
+    let damaged = joined(&[&vehicle, &marked]);
+    let all = [
+        (&survey, &vehicle, &yard),
+        (&vehicle, &vehicle, &yard),
+        (&survey, &marked, &damaged),
+        (&survey, &survey, &survey),
+    ];
+    for (survey, vehicle, yard) in all {
+        for entries in [0, fits - 1, fits, fits + 1, fits + 3] {
+            let files = [("survey", survey), ("vehicle", vehicle), ("yard", yard)];
+            let paths = files.map(|(name, bytes)| folder.file(name, bytes));
             let run = Command::new(&program).args(paths).arg(entries.to_string()).output().unwrap();
             assert!(run.status.success(), "{run:?}");
             let printed = String::from_utf8(run.stdout).unwrap();
-            assert_eq!(printed, expected(survey, vehicle, entries), "{entries} entries");
+            let expected = of_files(survey, vehicle, entries) + &of_yard(survey, yard, entries);
+            assert_eq!(printed, expected, "{entries} entries");
         }
     }
 }
