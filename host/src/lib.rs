@@ -25,4 +25,4 @@ mod yard;
 
 pub use judge::{check_survey, check_vehicle, judge, member_loads, Judgement, MemberLoads};
 pub use refusal::{Refusal, Which, YardRefusal};
-pub use yard::{judge_yard, YardJudgement};
+pub use yard::{check_yard, judge_yard, YardJudgement};

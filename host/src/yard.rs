@@ -1,7 +1,7 @@
 //! The call of the proved library on a whole yard, made safe.
 
 use crate::file::split_yard;
-use crate::judge::{check_survey, check_vehicle, Judgement};
+use crate::judge::{check_survey, check_vehicle, Judgement, SOUND_SURVEY};
 use crate::refusal::YardRefusal;
 
 /// The numbers of a yard: those of a refusal, or how many vehicles it has and how many pass.
@@ -102,4 +102,12 @@ pub fn judge_yard(survey: &[u8], yard: &[u8]) -> Result<YardJudgement, YardRefus
         passes: answer[2] == 1,
     });
     Ok(YardJudgement { judgements: judgements.collect(), passes: numbers.passes })
+}
+
+/// Is this a yard that the library takes?
+///
+/// # Errors
+/// Its refusal.
+pub fn check_yard(yard: &[u8]) -> Result<(), YardRefusal> {
+    judge_yard(SOUND_SURVEY, yard).map(drop)
 }

@@ -308,7 +308,7 @@ fn a_wrong_text_form_makes_no_file() {
 fn help_and_version() {
     let (status, help, _) = run(&["--help"]);
     assert!(status == 0 && help.contains("tbr judge SURVEY VEHICLE.."), "{help}");
-    for command in ["judge", "show", "make"] {
+    for command in ["judge", "yard", "show", "make"] {
         let (status, page, error) = run(&[command, "--help"]);
         assert_eq!((status, error.as_str()), (0, ""), "{command}");
         assert!(page.starts_with(&format!("tbr {command} ")), "{page}");
@@ -352,11 +352,22 @@ fn wrong_use() {
         (&["judge", "--fast", "case-a.tbr", "lorry.tbv"], "tbr judge --help"),
         (&["judge", "--csv", "--json", "case-a.tbr", "lorry.tbv"], "tbr judge --help"),
         (&["judge", "-", "-"], "tbr judge --help"),
+        (&["yard"], "tbr yard --help"),
+        (&["yard", "case-a.tbr"], "tbr yard --help"),
+        (&["yard", "case-a.tbr", "yard.tby", "yard.tby"], "tbr yard --help"),
+        (&["yard", "--csv", "--json", "case-a.tbr", "yard.tby"], "tbr yard --help"),
+        (&["yard", "--make", "x.tby", "lorry.tbv"], "tbr yard --help"),
+        (&["yard", "-", "-"], "tbr yard --help"),
         (&["show"], "tbr show --help"),
         (&["show", "case-a.tbr", "lorry.tbv"], "tbr show --help"),
         (&["make", "case-a.txt"], "tbr make --help"),
         (&["make", "--back"], "tbr make --help"),
         (&["make", "case-a.txt", "case-l.txt", "x"], "tbr make --help"),
+        (&["make", "--yard"], "tbr make --help"),
+        (&["make", "--yard", "lorry.tbv"], "tbr make --help"),
+        (&["make", "--yard", "--back", "lorry.tbv", "x"], "tbr make --help"),
+        (&["make", "--yard", "-", "-", "x"], "tbr make --help"),
+        (&[&["make", "--yard"][..], &["lorry.tbv"; 33], &["x"]].concat(), "tbr make --help"),
     ] {
         let (status, out, error) = run(words);
         assert_eq!((status, out.as_str()), (3, ""), "{words:?}");

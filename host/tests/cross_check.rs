@@ -3,9 +3,8 @@
 #[path = "../src/bin/tbr/check.rs"]
 mod check;
 
-use check::fit;
-use tbr::Judgement;
-use tbr::MemberLoads;
+use check::{fit, fit_yard};
+use tbr::{Judgement, MemberLoads, YardJudgement};
 
 /// Three members; the second governs, the third has as small a permitted load and refuses.
 fn right() -> (Judgement, Vec<MemberLoads>) {
@@ -81,4 +80,21 @@ fn the_verdict() {
     assert!(said(|judgement, _| judgement.passes = true).ends_with("the verdict"));
     let words = said(|_, members| (members[2].vehicle, members[2].passes) = (900, true));
     assert!(words.ends_with("the verdict"), "{words}");
+}
+
+/// Three vehicles of which two pass.
+#[test]
+fn the_numbers_of_a_yard() {
+    let judgement = |passes| Judgement { figure: 900, governing: 2, passes };
+    let yard =
+        |passes| YardJudgement { judgements: [true, false, true].map(judgement).into(), passes };
+    assert_eq!(fit_yard(3, &yard(2)), Ok(()));
+    for count in [0, 2, 4] {
+        let words = fit_yard(count, &yard(2)).unwrap_err();
+        assert!(words.ends_with("the number of vehicles"), "{words}");
+    }
+    for passes in [0, 1, 3, u64::MAX] {
+        let words = fit_yard(3, &yard(passes)).unwrap_err();
+        assert!(words.ends_with("the number of passes"), "{words}");
+    }
 }

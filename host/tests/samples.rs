@@ -19,6 +19,17 @@ fn text_forms_and_files_agree() {
     }
 }
 
+/// The yard is made of the two vehicles, in this order; the bridge of case A bears the first only.
+#[test]
+fn the_yard_is_of_these_vehicles() {
+    let vehicles = [sample("case-l.tbv"), sample("lorry.tbv")];
+    let made = tbr::file::join_yard(&vehicles);
+    assert_eq!(made, Some(sample("yard.tby")), "made anew by 'tbr make --yard'");
+    let judged = tbr::judge_yard(&sample("case-a.tbr"), &sample("yard.tby")).unwrap();
+    let verdicts: Vec<bool> = judged.judgements.iter().map(|judgement| judgement.passes).collect();
+    assert_eq!((verdicts, judged.passes), (vec![true, false], 1));
+}
+
 #[test]
 fn case_a_with_the_vehicle_of_case_l_passes() {
     let judgement = judge(&sample("case-a.tbr"), &sample("case-l.tbv")).unwrap();

@@ -426,6 +426,11 @@ fn files_and_texts_are_told_apart() {
     for (bytes, expected) in [
         (&b"TBR"[..], Look::File(survey)),
         (b"TBV\x01\x00\x00", Look::File(vehicle)),
+        (b"\x02TBV\x01\x00", Look::Yard),
+        (b"\x00TBV\x01\x00", Look::Yard),
+        (b"\x01TBV", Look::Yard),
+        (b"\x01TBR", Look::Other),
+        (b"\x01", Look::Other),
         (b"survey", Look::Text(survey)),
         (b"\xef\xbb\xbf# a bridge\r\n\tsurvey,\r\n", Look::Text(survey)),
         (b"vehicle, class bus\naxle\n", Look::Text(vehicle)),

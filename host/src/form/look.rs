@@ -1,4 +1,5 @@
-//! What bytes look like, before anything of them is checked: a survey, a vehicle, or a text form.
+//! What bytes look like, before anything of them is checked: a survey, a vehicle, a yard, or a text
+//! form.
 
 use super::read::text_of;
 use crate::refusal::Which;
@@ -8,6 +9,8 @@ use crate::refusal::Which;
 pub enum Look {
     /// They open with the mark of this file.
     File(Which),
+    /// A byte stands before the mark of a vehicle: they are vehicles joined to a yard.
+    Yard,
     /// They are the text form of this file.
     Text(Which),
     /// They are text, but neither a survey's nor a vehicle's.
@@ -22,6 +25,11 @@ fn is_text(bytes: &[u8]) -> bool {
     !bytes.is_empty() && bytes.iter().all(of_text)
 }
 
+/// Is the first vehicle of a yard where it stands?
+fn marked_behind(bytes: &[u8]) -> bool {
+    bytes.get(1..).is_some_and(|behind| behind.starts_with(Which::Vehicle.layout().mark))
+}
+
 /// What these bytes look like.
 pub fn look(bytes: &[u8]) -> Look {
     let marked = |which: &Which| bytes.starts_with(which.layout().mark);
@@ -30,6 +38,7 @@ pub fn look(bytes: &[u8]) -> Look {
     }
     match is_text(bytes) {
         true => text_of(bytes).map_or(Look::OtherText, Look::Text),
+        false if marked_behind(bytes) => Look::Yard,
         false => Look::Other,
     }
 }

@@ -2,6 +2,7 @@
 
 use tbr::Judgement;
 use tbr::MemberLoads;
+use tbr::YardJudgement;
 
 /// Holds the judgement of a bridge to the loads of its members, of which there are `count`. Both
 /// are the proved code's, from two calls: a difference is a fault of the program, in words.
@@ -27,6 +28,19 @@ pub fn fit(count: usize, judgement: &Judgement, members: &[MemberLoads]) -> Resu
     }
     if passes != members.iter().all(|member| member.passes) {
         return differ("the verdict");
+    }
+    Ok(())
+}
+
+/// Holds the judgements of a yard, which has `count` vehicles, to each other.
+pub fn fit_yard(count: usize, yard: &YardJudgement) -> Result<(), String> {
+    let differ = |what: &str| Err(format!("the yard and its judgements differ in {what}"));
+    if yard.judgements.len() != count {
+        return differ("the number of vehicles");
+    }
+    let passing = yard.judgements.iter().filter(|judgement| judgement.passes).count();
+    if u64::try_from(passing) != Ok(yard.passes) {
+        return differ("the number of passes");
     }
     Ok(())
 }

@@ -1,5 +1,5 @@
-//! The judgement as comma separated values: a line for each vehicle. 'tbr judge --help' has the
-//! columns.
+//! The judgement as comma separated values: a line for each vehicle. 'tbr judge --help' and
+//! 'tbr yard --help' have the columns.
 
 use crate::end::{Cause, Failure};
 use crate::judge::{verdict, Judged, Report};

@@ -1,7 +1,7 @@
 //! How a command ends: its exit status, what it prints, and why a file was not taken.
 
 use tbr::form::{FieldFault, TextError};
-use tbr::Refusal;
+use tbr::{Refusal, YardRefusal};
 
 /// The exit status, the worst last.
 #[derive(Clone, Copy, Debug, PartialEq, Eq, PartialOrd, Ord)]
@@ -54,10 +54,41 @@ pub struct Failure {
     pub hint: Option<String>,
 }
 
+/// A refusal of the library, in numbers and in words.
+pub struct Refused {
+    pub number: u64,
+    pub place: u64,
+    /// The vehicle at fault in a yard, from 1.
+    pub vehicle: Option<u64>,
+    /// What is refused, the number and the record.
+    pub heading: String,
+    /// What the number means.
+    pub meaning: String,
+}
+
+impl From<Refusal> for Refused {
+    fn from(refusal: Refusal) -> Refused {
+        let (heading, meaning) = (refusal.heading(), refusal.meaning());
+        let Refusal { number, place, .. } = refusal;
+        Refused { number, place, vehicle: None, heading, meaning }
+    }
+}
+
+impl From<YardRefusal> for Refused {
+    fn from(refusal: YardRefusal) -> Refused {
+        let (heading, meaning) = (refusal.heading(), refusal.meaning());
+        let vehicle = match refusal {
+            YardRefusal::Vehicle { vehicle, .. } => u64::try_from(vehicle).ok(),
+            YardRefusal::Survey(_) | YardRefusal::Yard { .. } => None,
+        };
+        Refused { number: refusal.number(), place: refusal.place(), vehicle, heading, meaning }
+    }
+}
+
 /// What was wrong.
 pub enum Cause {
     /// The library refuses the file; the fields at fault, and the numbers of the record.
-    Refused { refusal: Refusal, faults: Vec<FieldFault>, record: Vec<(&'static str, u16)> },
+    Refused { refusal: Box<Refused>, faults: Vec<FieldFault>, record: Vec<(&'static str, u16)> },
     /// The text form has these faults.
     Text(Vec<TextError>),
     /// Something else.
@@ -75,6 +106,14 @@ impl Failure {
         Failure { hint: Some(hint.into()), ..self }
     }
 
+    /// The vehicle at fault in a yard.
+    pub fn vehicle(&self) -> Option<u64> {
+        match &self.cause {
+            Cause::Refused { refusal, .. } => refusal.vehicle,
+            Cause::Text(_) | Cause::Other(..) => None,
+        }
+    }
+
     pub fn status(&self) -> Status {
         match &self.cause {
             Cause::Other(status, _) => *status,
@@ -86,11 +125,11 @@ impl Failure {
     pub fn messages(&self) -> Vec<String> {
         match &self.cause {
             Cause::Refused { refusal, faults, .. } if faults.is_empty() => {
-                vec![refusal.to_string()]
+                vec![format!("{}: {}", refusal.heading, refusal.meaning)]
             }
             Cause::Refused { refusal, faults, .. } => {
                 let faults: Vec<String> = faults.iter().map(FieldFault::to_string).collect();
-                vec![format!("{}: {}", refusal.heading(), faults.join("; "))]
+                vec![format!("{}: {}", refusal.heading, faults.join("; "))]
             }
             Cause::Text(faults) => faults.iter().map(TextError::to_string).collect(),
             Cause::Other(_, words) => vec![words.clone()],

@@ -68,6 +68,6 @@ pub fn read(name: &OsStr) -> Result<Input, Failure> {
     if u64::try_from(bytes.len()).is_ok_and(|length| length <= LONGEST) {
         return Ok(Input { name: shown, bytes, identity });
     }
-    let words = format!("longer than {LONGEST} bytes: no survey, vehicle or text form is");
+    let words = format!("longer than {LONGEST} bytes: no survey, vehicle, yard or text form is");
     Err(Failure::other(Status::RefusedFile, &shown, words))
 }

@@ -1,8 +1,9 @@
-//! The judgement as JSON, for programs. 'tbr judge --help' has the fields.
+//! The judgement as JSON, for programs. 'tbr judge --help' and 'tbr yard --help' have the fields.
 
 use crate::end::{Cause, Failure};
 use crate::judge::{verdict, Judged, Report, Row};
 use crate::value::Json;
+use crate::yard::YardReport;
 use tbr::MemberLoads;
 
 fn member(row: &Row) -> Json {
@@ -51,13 +52,13 @@ fn error(failure: &Failure) -> Json {
     ])
 }
 
-fn judgement(vehicle: &str, answer: &Result<Judged, Failure>) -> Json {
+fn judgement(vehicle: Json, answer: &Result<Judged, Failure>) -> Json {
     let judged = answer.as_ref().ok();
     let judgement = judged.map(|judged| judged.judgement);
     let refusing = judged.map(Judged::refusing).unwrap_or_default();
     let rows = judged.map(|judged| &judged.rows[..]).unwrap_or_default();
     Json::Object(vec![
-        ("vehicle", vehicle.into()),
+        ("vehicle", vehicle),
         ("verdict", judgement.map(|judgement| verdict(judgement.passes)).into()),
         ("figure", judgement.map(|judgement| judgement.figure).into()),
         ("governing", judgement.map(|judgement| judgement.governing).into()),
@@ -67,18 +68,38 @@ fn judgement(vehicle: &str, answer: &Result<Judged, Failure>) -> Json {
     ])
 }
 
-/// One object on one line.
-pub fn line(report: &Report) -> String {
+/// The judgements, each under its vehicle, or why there are none.
+fn answers(report: &Report, vehicles: impl Iterator<Item = Json>) -> (Json, Json) {
     let (answers, failure) = match &report.answers {
         Ok(answers) => (&answers[..], Json::Null),
         Err(failure) => (&[][..], error(failure)),
     };
-    let judgements = report.vehicles.iter().zip(answers);
-    let judgements = judgements.map(|(vehicle, answer)| judgement(vehicle, answer)).collect();
+    let judgements = vehicles.zip(answers).map(|(vehicle, answer)| judgement(vehicle, answer));
+    (Json::List(judgements.collect()), failure)
+}
+
+/// One object on one line.
+pub fn line(report: &Report) -> String {
+    let vehicles = report.vehicles.iter().map(|name| name.as_str().into());
+    let (judgements, failure) = answers(report, vehicles);
     let object = Json::Object(vec![
         ("survey", report.survey.as_str().into()),
         ("error", failure),
-        ("judgements", Json::List(judgements)),
+        ("judgements", judgements),
+    ]);
+    format!("{object}\n")
+}
+
+/// The same of a yard, whose vehicles have numbers.
+pub fn yard_line(yard: &YardReport) -> String {
+    let (judgements, failure) = answers(&yard.report, (1..).map(Json::Number));
+    let object = Json::Object(vec![
+        ("survey", yard.report.survey.as_str().into()),
+        ("yard", yard.yard.as_str().into()),
+        ("error", failure),
+        ("faulty", yard.faulty.into()),
+        ("passes", yard.passes.into()),
+        ("judgements", judgements),
     ]);
     format!("{object}\n")
 }

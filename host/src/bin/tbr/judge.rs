@@ -11,6 +11,8 @@ use tbr::file::Contents;
 use tbr::form::kind_of;
 use tbr::{Judgement, MemberLoads, Refusal, Which};
 
+const USAGE: &str = "tbr judge SURVEY VEHICLE..";
+
 /// A member: its kind's term and its loads.
 pub struct Row {
     pub kind: &'static str,
@@ -68,22 +70,27 @@ fn kinds(survey: &Taken) -> Option<Vec<&'static str>> {
     members.iter().map(|words| kind_of(words).map(|kind| kind.name)).collect()
 }
 
-fn judged(survey: &Taken, name: &OsStr) -> Result<Judged, Failure> {
-    let input = read(name)?;
-    let wrong = |words: String| internal(&input.name, words);
-    let vehicle = either(&input, Which::Vehicle)?;
-    // Both files were taken before, each by itself.
-    let refused = |refusal: Refusal| wrong(refusal.to_string());
-    let judgement = tbr::judge(&survey.bytes, &vehicle.bytes).map_err(refused)?;
-    let loads = tbr::member_loads(&survey.bytes, &vehicle.bytes).map_err(refused)?;
-    let kinds = kinds(survey).ok_or_else(|| wrong("a kind without a name".to_string()))?;
-    check::fit(kinds.len(), &judgement, &loads).map_err(wrong)?;
+/// A judgement with the loads of every member, to which it is held; or how they do not fit.
+pub fn with_loads(survey: &Taken, judgement: Judgement, vehicle: &[u8]) -> Result<Judged, String> {
+    let loads = tbr::member_loads(&survey.bytes, vehicle).map_err(|refusal| refusal.to_string())?;
+    let kinds = kinds(survey).ok_or("a kind without a name")?;
+    check::fit(kinds.len(), &judgement, &loads)?;
     let rows = kinds.into_iter().zip(loads).map(|(kind, loads)| Row { kind, loads }).collect();
     Ok(Judged { judgement, rows })
 }
 
+fn judged(survey: &Taken, name: &OsStr) -> Result<Judged, Failure> {
+    let input = read(name)?;
+    let wrong = |words: String| internal(&input.name, words);
+    let vehicle = either(&input, Which::Vehicle, USAGE)?;
+    // Both files were taken before, each by itself.
+    let refused = |refusal: Refusal| wrong(refusal.to_string());
+    let judgement = tbr::judge(&survey.bytes, &vehicle.bytes).map_err(refused)?;
+    with_loads(survey, judgement, &vehicle.bytes).map_err(wrong)
+}
+
 fn report(survey: &OsStr, vehicles: &[OsString]) -> Report {
-    let taken = read(survey).and_then(|input| either(&input, Which::Survey));
+    let taken = read(survey).and_then(|input| either(&input, Which::Survey, USAGE));
     Report {
         survey: shown(survey),
         vehicles: vehicles.iter().map(|name| shown(name)).collect(),
@@ -92,7 +99,7 @@ fn report(survey: &OsStr, vehicles: &[OsString]) -> Report {
 }
 
 /// The worst that came of any file.
-fn status(report: &Report) -> Status {
+pub fn status(report: &Report) -> Status {
     let of_answer = |answer: &Result<Judged, Failure>| match answer {
         Ok(judged) if judged.judgement.passes => Status::Pass,
         Ok(_) => Status::Refuse,

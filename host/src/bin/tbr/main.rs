@@ -13,6 +13,7 @@ mod show;
 mod table;
 mod take;
 mod value;
+mod yard;
 
 use arguments::{quoted, Arguments};
 use end::{End, Status};
@@ -30,18 +31,24 @@ struct Command {
     run: fn(&Arguments) -> Result<End, String>,
 }
 
-const COMMANDS: [Command; 3] = [
+const COMMANDS: [Command; 4] = [
     Command {
         name: "judge",
         help: include_str!("help/judge.txt"),
         options: &["--csv", "--json"],
         run: judge::run,
     },
+    Command {
+        name: "yard",
+        help: include_str!("help/yard.txt"),
+        options: &["--csv", "--json"],
+        run: yard::run,
+    },
     Command { name: "show", help: include_str!("help/show.txt"), options: &[], run: show::run },
     Command {
         name: "make",
         help: include_str!("help/make.txt"),
-        options: &["--back", "--force"],
+        options: &["--back", "--force", "--yard"],
         run: make::run,
     },
 ];

@@ -4,6 +4,7 @@
 use crate::end::{Failure, Status};
 use crate::input::{bytes_of, identity, standard, Input, STANDARD};
 use std::ffi::OsStr;
+use std::fmt;
 use std::fs::{self, File, Metadata, OpenOptions};
 use std::io::{self, ErrorKind, Write};
 use std::os::unix::fs::{fchown, MetadataExt, OpenOptionsExt};
@@ -11,11 +12,28 @@ use std::path::{Path, PathBuf};
 use tbr::form::{look, Look};
 use tbr::Which;
 
+/// What a file holds.
+#[derive(Clone, Copy, PartialEq, Eq)]
+pub enum Sort {
+    /// A survey or a vehicle, as a file or as a text form.
+    One(Which),
+    /// Vehicles joined.
+    Yard,
+}
+
+impl fmt::Display for Sort {
+    fn fmt(&self, f: &mut fmt::Formatter) -> fmt::Result {
+        match self {
+            Sort::One(which) => write!(f, "{which}"),
+            Sort::Yard => f.write_str("yard"),
+        }
+    }
+}
+
 /// A file to be written.
 pub struct Output<'a> {
     pub name: &'a OsStr,
-    /// What it is to hold, as a file or as a text form.
-    pub holds: Which,
+    pub holds: Sort,
     /// May another file be written over?
     pub force: bool,
 }
@@ -119,8 +137,12 @@ impl Output<'_> {
         self.wrong(format!("cannot be written: {error}"))
     }
 
-    /// Where the bytes go: not to the input, by whatever name.
-    fn place(&self, input: &Input) -> Result<Place, Failure> {
+    /// Where the bytes go: not to an input, by whatever name.
+    fn place(&self, inputs: &[Input]) -> Result<Place, Failure> {
+        let is_input = |found: &Metadata| {
+            let found = identity(found);
+            found.is_some() && inputs.iter().any(|input| input.identity == found)
+        };
         let out = standard(io::stdout()).and_then(|out| out.metadata());
         let out = out.map_err(|error| self.cannot(error))?;
         let same =
@@ -131,7 +153,7 @@ impl Output<'_> {
         };
         let path = || behind_links(Path::new(self.name)).map_err(|error| self.cannot(error));
         match found {
-            Ok(old) if input.identity.is_some() && identity(&old) == input.identity => {
+            Ok(old) if is_input(&old) => {
                 Err(self.wrong("this is the input itself, which is not written over"))
             }
             Ok(old) if same(&old, &out) => Ok(Place::Standard),
@@ -143,24 +165,28 @@ impl Output<'_> {
         }
     }
 
-    /// May this file be replaced? Never by a file of the other sort.
+    /// May this file be replaced? Never by a file of another sort.
     fn may_replace(&self, path: &Path) -> Result<(), Failure> {
         if !self.force {
             return Err(self.wrong("there is such a file; --force writes over it"));
         }
         let old = File::open(path).and_then(bytes_of).map_err(|error| self.cannot(error))?;
-        match look(&old) {
-            Look::File(other) | Look::Text(other) if other != self.holds => Err(self
-                .wrong(format!("this is a {other}; a {} does not take its place", self.holds))
-                .hint("remove it first, or give another name")),
-            _ => Ok(()),
+        let sort = match look(&old) {
+            Look::File(which) | Look::Text(which) => Sort::One(which),
+            Look::Yard => Sort::Yard,
+            Look::OtherText | Look::Other => self.holds,
+        };
+        if sort != self.holds {
+            let words = format!("this is a {sort}; a {} does not take its place", self.holds);
+            return Err(self.wrong(words).hint("remove it first, or give another name"));
         }
+        Ok(())
     }
 
     /// Writes the bytes; those for standard output are handed back.
-    pub fn write(&self, bytes: Vec<u8>, input: &Input) -> Result<Option<Vec<u8>>, Failure> {
+    pub fn write(&self, bytes: Vec<u8>, inputs: &[Input]) -> Result<Option<Vec<u8>>, Failure> {
         let cannot = |error| self.cannot(error);
-        match self.place(input)? {
+        match self.place(inputs)? {
             Place::Standard => return Ok(Some(bytes)),
             Place::Special => {
                 let file = OpenOptions::new().write(true).open(self.name);

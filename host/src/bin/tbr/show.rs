@@ -2,11 +2,11 @@
 
 use crate::arguments::Arguments;
 use crate::end::{End, Failure};
-use crate::input::read;
-use crate::take::{self, internal, summary};
+use crate::input::{read, Input};
+use crate::take::{self, internal, summary, yard_summary};
 use std::ffi::OsStr;
 use tbr::file::{Contents, Member};
-use tbr::form::{clause, kind_of, section_of, Field, AXLE, HEADING};
+use tbr::form::{clause, kind_of, look, section_of, Field, Look, AXLE, HEADING};
 
 fn clauses(fields: &[Field], words: &[u16]) -> Option<String> {
     let all: Option<Vec<String>> = fields.iter().map(|field| clause(field, words)).collect();
@@ -40,12 +40,25 @@ fn lines(contents: &Contents) -> Option<String> {
     }
 }
 
+/// A file under this name: what it is, then its lines.
+fn shown(input: &Input, name: &str, contents: &Contents) -> Result<String, Failure> {
+    let lines = lines(contents)
+        .ok_or_else(|| internal(&input.name, "the library takes a number without a word"))?;
+    Ok(format!("{name}: {}\n{lines}", summary(contents)))
+}
+
 fn show(name: &OsStr) -> Result<End, Failure> {
     let input = read(name)?;
-    let contents = take::file(&input)?.contents;
-    let lines = lines(&contents)
-        .ok_or_else(|| internal(&input.name, "the library takes a number without a word"))?;
-    Ok(End::done(format!("{}: {}\n{lines}", input.name, summary(&contents))))
+    if look(&input.bytes) != Look::Yard {
+        let contents = take::file(&input)?.contents;
+        return Ok(End::done(shown(&input, &input.name, &contents)?));
+    }
+    let vehicles = take::yard(&input)?;
+    let mut lines = format!("{}: {}\n", input.name, yard_summary(vehicles.len()));
+    for (vehicle, place) in vehicles.iter().zip(1..) {
+        lines += &shown(&input, &place.to_string(), vehicle)?;
+    }
+    Ok(End::done(lines))
 }
 
 /// The command, or what is wrong with its arguments.

@@ -1,6 +1,7 @@
 //! The judgement as people read it: a table for each vehicle, and what was refused.
 
 use crate::judge::{verdict, Judged, Report, Row};
+use crate::yard::YardReport;
 use tbr::MemberLoads;
 
 fn line([place, member, permitted, vehicle, used, verdict]: [&str; 6]) -> String {
@@ -53,4 +54,28 @@ pub fn tables(report: &Report) -> (String, String) {
         }
     }
     (tables.join("\n"), errors)
+}
+
+fn yard_line([vehicle, figure, governing, verdict]: [&str; 4]) -> String {
+    format!("{vehicle:>7}  {figure:>12}  {governing:<18}  {verdict}\n")
+}
+
+fn yard_row(vehicle: &str, judged: &Judged) -> String {
+    let judgement = &judged.judgement;
+    let governing = format!("{}, {}", judgement.governing, judged.governing_kind());
+    let verdict = format!("{}{}", verdict(judgement.passes), by_whom(&judged.refusing()));
+    yard_line([vehicle, &judgement.figure.to_string(), &governing, &verdict])
+}
+
+/// A row for each vehicle of a yard and how many pass, and the lines for standard error.
+pub fn yard(yard: &YardReport) -> (String, String) {
+    let answers = match &yard.report.answers {
+        Ok(answers) => answers,
+        Err(failure) => return (String::new(), failure.lines()),
+    };
+    let judged = yard.report.vehicles.iter().zip(answers.iter().flatten());
+    let rows: String = judged.map(|(vehicle, judged)| yard_row(vehicle, judged)).collect();
+    let heading = yard_line(["vehicle", "figure kgf/m", "governing member", "verdict"]);
+    let (passes, count) = (yard.passes.unwrap_or(0), answers.len());
+    (format!("{heading}{rows}\n{passes} of {count} vehicles pass\n"), String::new())
 }

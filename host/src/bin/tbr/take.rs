@@ -4,7 +4,7 @@ use crate::end::{Cause, Failure, Status};
 use crate::input::Input;
 use tbr::file::{self, Contents};
 use tbr::form::{self, look, Look};
-use tbr::{check_survey, check_vehicle, Refusal, Which};
+use tbr::{check_survey, check_vehicle, check_yard, Refusal, Which, YardRefusal};
 
 /// A file that the library takes.
 pub struct Taken {
@@ -22,8 +22,24 @@ fn check(bytes: &[u8], which: Which) -> Result<(), Refusal> {
 /// The refusal of these bytes, with the fields at fault.
 fn refused(name: &str, bytes: &[u8], refusal: Refusal) -> Failure {
     let (faults, record) = (form::explain(bytes, &refusal), form::numbers(bytes, &refusal));
-    let cause = Cause::Refused { refusal, faults, record };
+    let cause = Cause::Refused { refusal: Box::new(refusal.into()), faults, record };
     Failure { file: name.to_string(), cause, hint: None }
+}
+
+/// The refusal of a yard, with the fields at fault of a vehicle.
+pub fn refused_yard(input: &Input, yard_refusal: YardRefusal) -> Failure {
+    let at_fault = match yard_refusal {
+        YardRefusal::Vehicle { vehicle, refusal } => {
+            let files = file::split_yard(&input.bytes).unwrap_or_default();
+            let place = vehicle.checked_sub(1);
+            place.and_then(|i| files.get(i)).map(|bytes| (*bytes, refusal))
+        }
+        YardRefusal::Survey(_) | YardRefusal::Yard { .. } => None,
+    };
+    let explained = at_fault.map(|(bytes, r)| (form::explain(bytes, &r), form::numbers(bytes, &r)));
+    let (faults, record) = explained.unwrap_or_default();
+    let cause = Cause::Refused { refusal: Box::new(yard_refusal.into()), faults, record };
+    Failure { file: input.name.clone(), cause, hint: None }
 }
 
 /// The file of these bytes.
@@ -58,10 +74,10 @@ fn from_text(input: &Input) -> Result<Taken, Failure> {
     }
 }
 
-/// For `judge`: the file wanted, or its text form.
-pub fn either(input: &Input, wanted: Which) -> Result<Taken, Failure> {
-    let order =
-        |which| format!("{} is a {which}; the order is: tbr judge SURVEY VEHICLE..", input.name);
+/// For what is judged or joined: the file wanted, or its text form. The hint says how the command
+/// is used.
+pub fn either(input: &Input, wanted: Which, usage: &str) -> Result<Taken, Failure> {
+    let order = |which| format!("{} is a {which}; the order is: {usage}", input.name);
     match look(&input.bytes) {
         Look::File(which) if which != wanted => {
             from_file(input, wanted).map_err(|failure| failure.hint(order(which)))
@@ -71,8 +87,22 @@ pub fn either(input: &Input, wanted: Which) -> Result<Taken, Failure> {
             Err(Failure::other(Status::RefusedFile, &input.name, words).hint(order(which)))
         }
         Look::Text(_) | Look::OtherText => from_text(input),
+        Look::Yard => from_file(input, wanted).map_err(|failure| {
+            failure.hint(format!("{} is a yard; 'tbr yard SURVEY YARD' judges it", input.name))
+        }),
         Look::File(_) | Look::Other => from_file(input, wanted),
     }
+}
+
+/// The vehicles of a yard.
+pub fn yard(input: &Input) -> Result<Vec<Contents>, Failure> {
+    check_yard(&input.bytes).map_err(|refusal| refused_yard(input, refusal))?;
+    let vehicles = |files: Vec<&[u8]>| -> Option<Vec<Contents>> {
+        files.into_iter().map(|bytes| file::vehicle(bytes).map(Contents::Vehicle)).collect()
+    };
+    file::split_yard(&input.bytes)
+        .and_then(vehicles)
+        .ok_or_else(|| internal(&input.name, "the library takes a yard without vehicles"))
 }
 
 /// For `show` and `make --back`: a file of either sort, but no text form.
@@ -82,6 +112,8 @@ pub fn file(input: &Input) -> Result<Taken, Failure> {
         Look::File(which) => from_file(input, which),
         Look::Text(which) => Err(refused(format!("the text form of a {which}, not a file"))
             .hint(format!("'tbr make {} FILE' makes the file of it", input.name))),
+        Look::Yard => Err(refused("a yard, which has no text form".to_string())
+            .hint(format!("'tbr show {}' shows its vehicles", input.name))),
         Look::OtherText | Look::Other => {
             Err(refused("neither a survey (TBR) nor a vehicle (TBV)".to_string()))
         }
@@ -96,13 +128,25 @@ pub fn text(input: &Input) -> Result<Taken, Failure> {
             let hint = format!("'tbr make --back {} TEXT' writes its text form", input.name);
             Err(Failure::other(Status::RefusedFile, &input.name, words).hint(hint))
         }
+        Look::Yard => {
+            Err(Failure::other(Status::RefusedFile, &input.name, "a yard, not a text form"))
+        }
         Look::Text(_) | Look::OtherText | Look::Other => from_text(input),
     }
 }
 
+/// So many of these, in words.
+fn counted(count: usize, what: &str) -> String {
+    format!("{count} {what}{}", if count == 1 { "" } else { "s" })
+}
+
 /// In a few words.
 pub fn summary(contents: &Contents) -> String {
-    let (which, count) = (contents.which(), contents.count());
-    let record = which.layout().record;
-    format!("{which} of {count} {record}{}", if count == 1 { "" } else { "s" })
+    let which = contents.which();
+    format!("{which} of {}", counted(contents.count(), which.layout().record))
+}
+
+/// The same of a yard of so many vehicles.
+pub fn yard_summary(vehicles: usize) -> String {
+    format!("yard of {}", counted(vehicles, "vehicle"))
 }
