@@ -50,6 +50,8 @@ fn lengths(script: &mut Script) {
     for entries in [0, 1, 31, 32, 33, 40] {
         script.yard(&full, entries);
     }
+    script.title("all of 32 pass");
+    script.yard(&joined(&rising(32, 20)), 32);
     script.title("32 vehicles of 16 axles");
     let weights = (1..=32).map(|i| long(400 * i, 150));
     let full = joined(&weights.collect::<Vec<_>>());
