@@ -9,7 +9,7 @@ ghost use Rattle.session.specs.Calls.{Valid};
 const MOST_ENTRIES: usize = 160;
 
 // Entry i of a lent list holds KNOWN + i, so that entries that were kept are seen.
-const KNOWN: u64 = 1000000;
+pub const KNOWN: u64 = 1000000;
 
 pub fn start() -> Session
     ensures { λ r. ⌜ Valid r ⌝ }

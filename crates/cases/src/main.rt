@@ -3,6 +3,7 @@
 mod calls;
 mod print;
 mod script;
+mod yard;
 
 use libc::STDIN_FILENO;
 use script::run;

@@ -2,9 +2,15 @@
 use files::Reading;
 use files::Refusal;
 use libc::STDOUT_FILENO;
+use rating::judging::Judgement;
 use rating::judging::Verdict;
 use session::Judged;
 use session::Rated;
+use session::yard::YardJudged;
+ghost use Prim.Native.Nat.{_≤_};
+
+// The longest list of judgements that a script can ask for.
+pub const MOST_JUDGEMENTS: usize = 40;
 
 pub fn text(bytes: &[u8]) {
     io::write_all(STDOUT_FILENO, bytes);
@@ -22,9 +28,16 @@ pub fn number(n: u64) {
 
 fn verdict(v: Verdict) {
     match v {
-        Verdict::Pass => line(b" pass"),
-        Verdict::Refuse => line(b" refuse"),
+        Verdict::Pass => text(b" pass"),
+        Verdict::Refuse => text(b" refuse"),
     }
+}
+
+fn judgement(j: Judgement) {
+    number(j.figure.0);
+    number(j.governing);
+    let v = j.verdict;
+    verdict(v);
 }
 
 fn refusal(r: Refusal) {
@@ -49,6 +62,7 @@ pub fn rated(answer: Rated) {
             number(r.load.0);
             let v = r.verdict;
             verdict(v);
+            text(b"\n");
         }
         Rated::Refused(r) => refusal(r),
     }
@@ -57,12 +71,20 @@ pub fn rated(answer: Rated) {
 pub fn judged(answer: Judged) {
     match answer {
         Judged::Figures(j) => {
-            number(j.figure.0);
-            number(j.governing);
-            let v = j.verdict;
-            verdict(v);
+            judgement(j);
+            text(b"\n");
         }
         Judged::Refused(r) => refusal(r),
+    }
+}
+
+pub fn yard(answer: YardJudged) {
+    match answer {
+        YardJudged::Passes(n) => {
+            number(n);
+            text(b"\n");
+        }
+        YardJudged::Refused(r) => refusal(r),
     }
 }
 
@@ -77,5 +99,25 @@ fn each_entry(entries: &[u64]) {
 pub fn list(entries: &[u64]) {
     text(b"list");
     each_entry(entries);
+    text(b"\n");
+}
+
+fn each_judgement(list: [Judgement; MOST_JUDGEMENTS], entries: usize)
+    requires { ⌜ entries ≤ 40 ⌝ }
+{
+    let mut i: usize = 0;
+    while i < entries {
+        let j = list[i];
+        judgement(j);
+        i += 1;
+    }
+}
+
+// The first `entries` judgements of the list.
+pub fn judgements(list: [Judgement; MOST_JUDGEMENTS], entries: usize)
+    requires { ⌜ entries ≤ 40 ⌝ }
+{
+    text(b"list");
+    each_judgement(list, entries);
     text(b"\n");
 }

@@ -2,14 +2,19 @@
 //   T n   a title of the n bytes that follow        N 0   a new session
 //   S n   load a survey of the n bytes that follow  V n   load a vehicle of the n bytes that follow
 //   R p   rate the place p                          J n   judge with a list of n entries
+//   Y n   judge a yard: of the n bytes that follow two are the number of the list's entries, and the others the yard
 use crate::calls;
 use crate::print;
+use crate::yard;
 use session::Session;
 ghost use Prim.Native.Nat.{_+_, _≤_, _<_};
 ghost use lib.ListN.{length};
 ghost use Rattle.session.specs.Calls.{Valid};
 
 const HEAD: usize = 3;
+
+// The bytes of a number.
+const NUMBER: usize = 2;
 
 struct Step {
     letter: u8,
@@ -22,14 +27,20 @@ fn wide(x: u8) -> usize
     x as usize
 }
 
+fn number_at(script: &[u8], at: usize) -> usize
+    requires { ⌜ at + 2 ≤ length (now script) ⌝ }
+{
+    let low = wide(script[at]);
+    let high = wide(script[at + 1]);
+    low + 256 * high
+}
+
 fn step_at(script: &[u8], at: usize) -> Step
     requires { ⌜ at + 3 ≤ length (now script) ⌝ }
 {
-    let low = wide(script[at + 1]);
-    let high = wide(script[at + 2]);
     Step {
         letter: script[at],
-        number: low + 256 * high,
+        number: number_at(script, at + 1),
     }
 }
 
@@ -41,7 +52,7 @@ fn end_of(step: Step, from: usize, script: &[u8]) -> usize
     let letter = step.letter;
     let number = step.number;
     match letter {
-        b'T' | b'S' | b'V' => {
+        b'T' | b'S' | b'V' | b'Y' => {
             if number <= script.len() - from {
                 from + number
             } else {
@@ -50,6 +61,18 @@ fn end_of(step: Step, from: usize, script: &[u8]) -> usize
         }
         _ => from,
     }
+}
+
+// A cut script may have no number of entries: its bytes are printed.
+fn run_yard(session: Session, bytes: &[u8]) -> Session
+    requires { ⌜ Valid session ⌝ }
+    ensures { λ r. ⌜ Valid r ⌝ }
+{
+    if bytes.len() < NUMBER {
+        print::line(bytes);
+        return session;
+    }
+    yard::judge(session, &bytes[NUMBER..], number_at(bytes, 0))
 }
 
 fn run_step(session: Session, step: Step, bytes: &[u8]) -> Session
@@ -64,6 +87,7 @@ fn run_step(session: Session, step: Step, bytes: &[u8]) -> Session
         b'V' => calls::load_vehicle(session, bytes),
         b'R' => calls::rate(session, number as u64),
         b'J' => calls::judge(session, number),
+        b'Y' => run_yard(session, bytes),
         _ => {
             print::line(bytes);
             session
