@@ -2,7 +2,7 @@
 //   T n   a title of the n bytes that follow        N 0   a new session
 //   S n   load a survey of the n bytes that follow  V n   load a vehicle of the n bytes that follow
 //   R p   rate the place p                          J n   judge with a list of n entries
-//   Y n   judge a yard: of the n bytes that follow two are the number of the list's entries, and the others the yard
+//   Y n   judge a yard with a list: of the n bytes that follow, the first two are the list's entries, the others the yard
 use crate::calls;
 use crate::print;
 use crate::yard;
@@ -63,7 +63,7 @@ fn end_of(step: Step, from: usize, script: &[u8]) -> usize
     }
 }
 
-// A cut script may have no number of entries: its bytes are printed.
+// A script that is cut before the yard has no list: its bytes are printed.
 fn run_yard(session: Session, bytes: &[u8]) -> Session
     requires { ⌜ Valid session ⌝ }
     ensures { λ r. ⌜ Valid r ⌝ }

@@ -16,6 +16,7 @@ struct YardRun {
     list: [Judgement; MOST_JUDGEMENTS],
 }
 
+// What entry i of a lent list holds, so that entries that were kept are seen.
 fn known(i: usize) -> Judgement
     requires { ⌜ i < 40 ⌝ }
 {

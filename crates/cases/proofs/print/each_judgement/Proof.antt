@@ -1,6 +1,5 @@
 -- `each_judgement` is safe and ends: the index goes up to `entries`, and the array has as many elements at least.
 use Prim.Native.Nat.{_≤_, _-_}
-use native.Mathlib.Omega.{arith}
 use borrow.Author.Needs.{needs}
 use Rattle.cases.proofs.print.each_judgement.Statement.{statement}
 use Rattle.cases.proofs.print.each_judgement.Tie as tie

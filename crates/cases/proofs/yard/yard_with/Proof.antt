@@ -1,7 +1,7 @@
--- `yard_with` meets its contract: a walk of its MIR, by hand. The array is copied into a local, whose first `entries` elements are lent to `Session::judge_yard` for a
--- lifetime that is made for the call; they come back, as many as they were, and the array is whole again (`Prefix.antt`).
--- Of `judge_yard` it knows only that it meets its contract, and of the session, of what the call gives and of the result only their types' laws. Of the parameters nothing is kept to the exit.
--- Assumes nothing.
+-- `yard_with` meets its contract: a walk of its MIR, by hand. The array is copied into a local, whose first `entries` elements are lent to
+-- `Session::judge_yard` for a lifetime that is made for the call; they come back, as many as they were, and the array is whole again
+-- (`Prefix.antt`). Of `judge_yard` it knows only that it meets its contract, and of the session, of what the call gives and of the result
+-- only their types' laws. Nothing is said of the list, so of the parameters nothing is kept to the exit (`stay-dropped`). Assumes nothing.
 use mathlib.Core.Path.{_≡_, refl}
 use Prim.Native.Nat.{ℕ, _<_, _≤_, _^_}
 use mathlib.Core.List.{List, [], _∷_, _++_}
@@ -168,7 +168,7 @@ module _ {M : Type 1} (𝓤 : URA M) (H : Heap 𝓤) (A : Atoms 𝓤) (W : Given
     abbrev Hands : List (Item 𝓤)
     Hands = ‵ (S.the-row .own s (v₁ ∷ [])) ∷ ‵ (ShrSlice (named 0) κ u8 .own x (v₂ ∷ [])) ∷ ‵ (PartOwn J.the-row N b k (named 1) (α ∷ []) xs γ) ∷ ‵ (flft (α ∷ []) fullShare) ∷ Token ∷ []
 
-    -- the caller has what `yard` asks
+    -- the caller has what `judge_yard` asks
     goes-yard : ent 𝓤 (⋆ 𝓤 H A Hands) (Yard 𝓤 H A mem run .pre to-yard)
     goes-yard =
         qed W Hands ∵ says ! valid $ move ! (4 ∷ []) $ split ! $ move ! (5 ∷ 1 ∷ []) $ join ! $ move ! (1 ∷ 0 ∷ []) $ join ! $ frame ! $
@@ -188,7 +188,7 @@ module _ {M : Type 1} (𝓤 : URA M) (H : Heap 𝓤) (A : Atoms 𝓤) (W : Given
         split ! $ move ! (1 ∷ []) $ split ! $ drop ! $ split ! $ drop ! $ heard ! (Valid (r .session)) (λ ok.
         fsplit ! $ drop ! $ fsplit ! $ drop ! $ fsplit ! $ fsplit ! $ show ! (Said r) (ws .1 .1 .0) $ check ! ok $ keep ! (0 ∷ []) $ done !))
 
-  -- ---- the exit, at what `yard` returned and the array as it then is
+  -- ---- the exit, at what `judge_yard` returned and the array as it then is
   module _ (r : AfterYard) (ys : List Judgement) (w u : Val) (is-r : Is Y.the-row r (w ∷ [])) (is-ys : Is Js ys (u ∷ [])) where
     abbrev res : YardRun
     res = record { after = r; list = ys }
