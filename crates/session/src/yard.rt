@@ -6,13 +6,13 @@ use files::Reading;
 use files::Refusal;
 use files::yard::MOST_VEHICLES;
 use files::yard::vehicle_length;
+use listing::put_all;
 use rating::judging::Judgement;
 use rating::judging::Verdict;
 use section::KgfPerM;
 ghost use mathlib.Core.Path.{_≡_};
 ghost use Prim.Native.Nat.{_+_, _≤_, _<_};
-ghost use mathlib.Core.List.{_++_};
-ghost use lib.ListN.{length, take, drop, getD};
+ghost use lib.ListN.{length};
 ghost use Rattle.files.specs.YardFile.{MOST-VEHICLES, vehiclesOf};
 ghost use Rattle.session.specs.Answers.{judgeAnswer, verdictNumber, yardJudged};
 ghost use Rattle.session.specs.Calls.{Valid};
@@ -244,26 +244,6 @@ pub fn yard_answers(session: Session, yard: &[u8], room: usize) -> YardAnswers
     }
     let count = wide(yard[0]);
     found(session, yard, judge_each(session, yard, count), count, room)
-}
-
-// The answer of one vehicle.
-fn answer_at(answers: [Judgement; MOST_VEHICLES], i: usize) -> Judgement
-    requires { ⌜ i < MOST-VEHICLES ⌝ }
-    ensures { λ r. ⌜ r ≡ getD answers i r ⌝ }
-{
-    answers[i]
-}
-
-// Writes the first `count` answers into the list; entries beyond are kept.
-fn put_all(list: &mut [Judgement], answers: [Judgement; MOST_VEHICLES], count: usize)
-    requires { ⌜ (count ≤ MOST-VEHICLES) × (count ≤ length (now list)) ⌝ }
-    ensures { λ _. ⌜ now (list .exit) ≡ take count answers ++ drop count (now (list .entry)) ⌝ }
-{
-    let mut i: usize = 0;
-    while i < count {
-        list[i] = answer_at(answers, i);
-        i += 1;
-    }
 }
 
 impl Session {

@@ -64,10 +64,10 @@ use Rattle.session.proofs.yard.yard_answers as yard-answers
 use Rattle.session.proofs.yard.yard_answers.Symbol as yard-answers-def
 use Rattle.session.proofs.yard.yard_answers.Symbol.{name as #yard-answers}
 use Rattle.session.proofs.yard.yard_answers.Met as yard-answers-thm
-use Rattle.session.proofs.yard.put_all as put-all
-use Rattle.session.proofs.yard.put_all.Symbol as put-all-def
-use Rattle.session.proofs.yard.put_all.Symbol.{name as #put-all}
-use Rattle.session.proofs.yard.put_all.Met as put-all-thm
+use Rattle.listing.proofs.put_all as put-all
+use Rattle.listing.proofs.put_all.Symbol as put-all-def
+use Rattle.listing.proofs.put_all.Symbol.{name as #put-all}
+use Rattle.listing.proofs.put_all.Met as put-all-thm
 use Rattle.session.proofs.Session.judge_yard.Key.{name as #judge-yard}
 use Rattle.session.proofs.Session.judge_yard as judge-yard
 use Rattle.session.proofs.Session.judge_yard.Statement as stated
@@ -344,4 +344,4 @@ judge-yard-spec 𝓤 H 𝓜 𝓖 𝓡 =
     (tables 𝓤 H 𝓜 𝓡 code.env .C) (tables 𝓤 H 𝓜 𝓡 code.env .Λ) #judge-yard code.function (code.unfolded 𝓤 H 𝓜 𝓡)
     (judge-yard-meets 𝓤 H (𝓖 .A) (givenOf 𝓤 H 𝓜 𝓖) (𝓜 .mem) (𝓡 .run) (tablesOf 𝓤 H 𝓜 (tables 𝓤 H 𝓜 𝓡 code.env))
     (cited 𝓤 H (YardAnswered 𝓤 H (𝓖 .A) (𝓜 .mem) (𝓡 .run)) 𝓜 𝓡 code.env #yard-answers yard-answers-def.routine code.calls-session·yard·yard-answers (yard-answers-thm.met 𝓤 H 𝓜 𝓖 𝓡))
-    (cited 𝓤 H (PutAll 𝓤 H (𝓖 .A) (𝓜 .mem) (𝓡 .run)) 𝓜 𝓡 code.env #put-all put-all-def.routine code.calls-session·yard·put-all (put-all-thm.met 𝓤 H 𝓜 𝓖 𝓡)))
+    (cited 𝓤 H (PutAll 𝓤 H (𝓖 .A) (𝓜 .mem) (𝓡 .run)) 𝓜 𝓡 code.env #put-all put-all-def.routine code.calls-listing·put-all (put-all-thm.met 𝓤 H 𝓜 𝓖 𝓡)))

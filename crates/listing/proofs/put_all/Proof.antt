@@ -1,4 +1,4 @@
--- `session::yard::put_all` meets its contract: a walk of its MIR, by hand. The borrow of the list is opened once, before the loop, and closed once, after it;
+-- `listing::put_all` meets its contract: a walk of its MIR, by hand. The borrow of the list is opened once, before the loop, and closed once, after it;
 -- in between, the row of elements is i answers and then what stood there, and a turn stores the answer at i over element i (`stored`).
 -- The answer at i is what `answer_at` returns, of which the proof knows only that it meets its contract.
 -- Assumes nothing.
@@ -56,15 +56,15 @@ use Rattle.files.specs.YardFile.{MOST-VEHICLES}
 use Rattle.rating.specs.declared.judging.Judgement.{Judgement}
 use Rattle.rating.proofs.judging.Judgement as T
 use Rattle.rating.proofs.judging.Judgement.Laws as T′
-use Rattle.session.proofs.yard.answer_at as answer-at
-use Rattle.session.proofs.yard.answer_at.Symbol as answer-at-def
-use Rattle.session.proofs.yard.answer_at.Symbol.{name as #answer-at}
-use Rattle.session.proofs.yard.answer_at.Met as answer-at-thm
-use Rattle.session.proofs.yard.put_all.Key.{name as #put-all}
-use Rattle.session.proofs.yard.put_all as put-all
-use Rattle.session.proofs.yard.put_all.Statement as stated
-use Rattle.session.proofs.yard.put_all.Code as code
-use Rattle.session.proofs.yard.put_all.Code.Mir as code-mir
+use Rattle.listing.proofs.answer_at as answer-at
+use Rattle.listing.proofs.answer_at.Symbol as answer-at-def
+use Rattle.listing.proofs.answer_at.Symbol.{name as #answer-at}
+use Rattle.listing.proofs.answer_at.Met as answer-at-thm
+use Rattle.listing.proofs.put_all.Key.{name as #put-all}
+use Rattle.listing.proofs.put_all as put-all
+use Rattle.listing.proofs.put_all.Statement as stated
+use Rattle.listing.proofs.put_all.Code as code
+use Rattle.listing.proofs.put_all.Code.Mir as code-mir
 
 -- ---- the element's type, the one place that names its size
 abbrev E : RattleType
@@ -331,4 +331,4 @@ put-all-spec 𝓤 H 𝓜 𝓖 𝓡 =
     entered 𝓤 H (tripleOf 𝓤 H (𝓖 .A) put-all.signature (put-all.spec 𝓤 H (𝓖 .A) (𝓜 .mem) (𝓡 .run)))
     (tables 𝓤 H 𝓜 𝓡 code.env .C) (tables 𝓤 H 𝓜 𝓡 code.env .Λ) #put-all code.function (code.unfolded 𝓤 H 𝓜 𝓡)
     (put-all-meets 𝓤 H (𝓖 .A) (givenOf 𝓤 H 𝓜 𝓖) (𝓜 .mem) (𝓡 .run) (tablesOf 𝓤 H 𝓜 (tables 𝓤 H 𝓜 𝓡 code.env))
-    (cited 𝓤 H (AnswerAt 𝓤 H (𝓖 .A) (𝓜 .mem) (𝓡 .run)) 𝓜 𝓡 code.env #answer-at answer-at-def.routine code.calls-session·yard·answer-at (answer-at-thm.met 𝓤 H 𝓜 𝓖 𝓡)))
+    (cited 𝓤 H (AnswerAt 𝓤 H (𝓖 .A) (𝓜 .mem) (𝓡 .run)) 𝓜 𝓡 code.env #answer-at answer-at-def.routine code.calls-listing·answer-at (answer-at-thm.met 𝓤 H 𝓜 𝓖 𝓡)))

@@ -1,11 +1,11 @@
--- `session::yard::answer_at` meets its contract: it returns the element at i. The machine's load is `getD` at a default of its own, and reading the same place again with that element for the default gives the same element (`twice`).
+-- `listing::answer_at` meets its contract: it returns the element at i. The machine's load is `getD` at a default of its own, and reading the same place again with that element for the default gives the same element (`twice`).
 use mathlib.Core.Path.{_≡_, refl}
 use Prim.Native.Nat.{ℕ, zero, suc}
 use mathlib.Core.List.{List, [], _∷_}
 use lib.ListN.{getD}
 use native.Mathlib.Omega.{arith}
-use Rattle.session.proofs.yard.answer_at.Statement.{statement}
-use Rattle.session.proofs.yard.answer_at.Tie as tie
+use Rattle.listing.proofs.answer_at.Statement.{statement}
+use Rattle.listing.proofs.answer_at.Tie as tie
 
 -- what stands at i is what stands there with itself for the default
 twice : {A : Type 0} (xs : List A) (i : ℕ) (d : A) → getD xs i d ≡ getD xs i (getD xs i d)
