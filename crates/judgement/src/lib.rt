@@ -1,11 +1,11 @@
 // The judgement for the dispatchers' host program: one exported function on the bytes of both files, which returns numbers.
 ghost use mathlib.Core.Path.{_≡_};
-ghost use Rattle.session.specs.Answers.{verdictNumber, judgeAnswer};
+ghost use Rattle.session.specs.Answers.{judgeAnswer};
 ghost use Rattle.session.specs.Calls.{judgeFiles};
 ghost use Rattle.judgement.specs.Numbers.{numbersOf};
-use rating::judging::Verdict;
 use session::Judged;
 use session::judge_files;
+use session::yard::verdict_number;
 
 // Number and place of a refusal, both 0 where there is none; then figure, governing place and verdict (1 pass, 0 refuse), all 0
 // where a file is refused. The host's declaration has the same fields in the same order.
@@ -16,15 +16,6 @@ pub struct Numbers {
     pub figure: u64,
     pub governing: u64,
     pub passes: u64,
-}
-
-fn verdict_number(v: Verdict) -> u64
-    ensures { λ r. ⌜ r ≡ verdictNumber v ⌝ }
-{
-    match v {
-        Verdict::Pass => 1,
-        Verdict::Refuse => 0,
-    }
 }
 
 pub fn numbers_of(answer: Judged) -> Numbers
