@@ -1,4 +1,7 @@
-// The members' loads for the host program: one exported function on the bytes of both files and a lent list.
+// The members' loads for the host program: one exported function on the bytes of both files and a lent list. `yard` has the same for a
+// whole yard.
+pub mod yard;
+
 ghost use mathlib.Core.Path.{_≡_};
 ghost use Prim.Native.Nat.{_<_};
 ghost use lib.ListN.{length};
