@@ -1,6 +1,7 @@
 -- `tbr_yard` meets its contract: the answer of the survey's load picks the case of its definitions, and what is found in the yard is counted
 -- and written.
 use mathlib.Core.Path.{_≡_}
+use native.Mathlib.Omega.{arith}
 use denote.Ref.{now}
 use Rattle.session.specs.Answers.{loaded}
 use Rattle.session.specs.Calls.{newSession, loadSurvey}
@@ -13,7 +14,7 @@ new-requires : tie.Need-new-requires
 new-requires c κs = tt
 
 load-survey-requires : tie.Need-load-survey-requires
-load-survey-requires c κs = search needs
+load-survey-requires c κs = c .new .ensures .1
 
 survey-loaded : (c : tie.After-load-survey) → loaded (c .load-survey .result) ≡ loadSurvey newSession (now (c .before .before .before .before .before .args .survey))
 survey-loaded c = rw (c .before .new .ensures .0) at (c .load-survey .ensures .0)
@@ -34,10 +35,12 @@ enum-told : tie.Need-enum-told
 enum-told c = search needs
 
 yard-answers-requires : tie.Need-yard-answers-requires
-yard-answers-requires c κs = search needs
+yard-answers-requires c κs = c .before .before .before .load-survey .ensures .1
 
 put-numbers-requires : tie.Need-put-numbers-requires
-put-numbers-requires c κs = search needs
+put-numbers-requires c κs =
+    let a = c .before .before .yard-answers .ensures in
+    (a .most, a .sized, omega (arith, a .fits))
 
 numbers-of-requires-2 : tie.Need-numbers-of-requires-2
 numbers-of-requires-2 c κs = tt
