@@ -1,4 +1,4 @@
--- The four calls. Document 01, 'Calls': "Load a survey, load a vehicle, rate one place, judge."
+-- The four calls. Document 01, 'Calls': "Load a survey, load a vehicle, rate one place, judge." `Yard` has the fifth.
 use Prim.Native.Nat.{ℕ, _-_, _*_, _<_}
 use mathlib.Core.Bool.{Bool, not}
 use mathlib.Core.List.{List, [], _∷_}

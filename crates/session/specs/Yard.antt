@@ -1,4 +1,4 @@
--- The whole yard in one go. Document 02, request 3/13.
+-- The call that judges a yard of vehicles. Document 02, request 3/13: "The whole yard in one go."
 use Prim.Native.Nat.{ℕ, _+_}
 use mathlib.Core.Bool.{Bool, not}
 use mathlib.Core.List.{List, [], _∷_, _++_, map}

@@ -1,5 +1,5 @@
-// The session: the survey and the vehicle that are loaded, and the four calls. A session goes in by value and comes back beside
-// the answer.
+// The session: the survey and the vehicle that are loaded, and the calls; `yard` has the one that judges a yard of vehicles. A session
+// goes in by value and comes back beside the answer.
 ghost use mathlib.Core.Path.{_≡_};
 ghost use Rattle.session.specs.Answers.{loaded, rated, judged, judgeAnswer};
 ghost use Prim.Native.Nat.{_≤_};

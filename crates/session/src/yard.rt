@@ -13,10 +13,10 @@ use section::KgfPerM;
 ghost use mathlib.Core.Path.{_≡_};
 ghost use Prim.Native.Nat.{_+_, _≤_, _<_};
 ghost use lib.ListN.{length};
+ghost use Rattle.files.specs.Reading.{firstOf};
 ghost use Rattle.files.specs.YardFile.{MOST-VEHICLES, vehiclesOf};
 ghost use Rattle.session.specs.Answers.{judgeAnswer, verdictNumber, yardJudged};
 ghost use Rattle.session.specs.Calls.{Valid};
-ghost use Rattle.files.specs.Reading.{firstOf};
 ghost use Rattle.session.specs.Yard.{alone, frontTests, endTests, entries, judgeYard, yardList};
 ghost use Rattle.session.specs.YardRun.{Ran, Answered, withAnswer, refusedYard};
 
