@@ -11,8 +11,8 @@ use files::Reading;
 use files::yard::MOST_VEHICLES;
 use rating::judging::Judgement;
 use session::Session;
+use session::verdict_number;
 use session::yard::YardJudged;
-use session::yard::verdict_number;
 use session::yard::yard_answers;
 
 // Number and place of a refusal, both 0 where there is none; then the number of vehicles, whose answers the list has, and of those that

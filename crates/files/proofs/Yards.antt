@@ -1,7 +1,7 @@
 -- A yard's bytes as vehicle files: one more of them is cut off what is left, what is cut off and what is left make up the bytes, and
 -- allowed files that are joined are cut as they were.
 -- Assumes nothing.
-use Prim.Native.Nat.{ℕ, zero, suc, _+_, _*_, _<_, _≤_, min}
+use Prim.Native.Nat.{ℕ, zero, suc, _+_, _<_, min}
 use mathlib.Core.Path.{_≡_, refl, sym, ap, _∙_}
 use mathlib.Core.List.{List, [], _∷_, _++_, append-assoc}
 use native.Mathlib.Decide.{decLe}
@@ -9,8 +9,7 @@ use native.Mathlib.Omega.{arith}
 use lib.ListN.{length, getD, take, drop, take-append-drop, drop-of-length-le, List·getD-append}
 use lib.Seq.{take-all, take-at, drop-at}
 use Rattle.files.specs.Allowed.{AllowedVehicleFile}
-use Rattle.files.specs.VehicleFile.{axlesOf}
-use Rattle.files.specs.YardFile.{MOST-VEHICLES, ownLength, filesIn, leftAfter, joined}
+use Rattle.files.specs.YardFile.{ownLength, filesIn, leftAfter, joined}
 
 -- as many as there are
 module _ {A : Type 0} (k : ℕ) (l : List A) where
@@ -53,20 +52,21 @@ files-joined (suc n) bytes =
 own-length : (file rest : List ℕ) → AllowedVehicleFile file → length file ≡ ownLength (file ++ rest)
 own-length file rest a = rw (List·getD-append file rest 0 8 (omega (arith, a .size))) (a .size)
 
-abbrev EachAllowed : List (List ℕ) → Type 0
-EachAllowed files = (i : ℕ) → i < length files → AllowedVehicleFile (getD files i [])
+-- the first n files are allowed
+abbrev pub AllowedTo : List (List ℕ) → (n : ℕ) → Type 0
+AllowedTo files n = (i : ℕ) → i < n → AllowedVehicleFile (getD files i [])
 
-later : (file : List ℕ) (files : List (List ℕ)) → EachAllowed (file ∷ files) → EachAllowed files
+later : (file : List ℕ) (files : List (List ℕ)) → AllowedTo (file ∷ files) (length (file ∷ files)) → AllowedTo files (length files)
 later file files a i h = a (suc i) (omega arith)
 
 -- so joined files are cut as they were, and nothing is left
-pub joined-files : (files : List (List ℕ)) → EachAllowed files → filesIn (length files) (joined files) ≡ files
+pub joined-files : (files : List (List ℕ)) → AllowedTo files (length files) → filesIn (length files) (joined files) ≡ files
 joined-files [] a = refl
 joined-files (file ∷ files) a =
     let own = own-length file (joined files) (a 0 (omega arith)) in
     rw (take-at file (joined files) (ownLength (file ++ joined files)) own, drop-at file (joined files) (ownLength (file ++ joined files)) own, joined-files files (later file files a))
 
-pub joined-left : (files : List (List ℕ)) → EachAllowed files → leftAfter (length files) (joined files) ≡ []
+pub joined-left : (files : List (List ℕ)) → AllowedTo files (length files) → leftAfter (length files) (joined files) ≡ []
 joined-left [] a = refl
 joined-left (file ∷ files) a =
     let own = own-length file (joined files) (a 0 (omega arith)) in

@@ -17,8 +17,8 @@ MOST-VEHICLES = 32
 abbrev pub vehiclesOf : (yard : List ℕ) → ℕ
 vehiclesOf yard = byteAt yard 0
 
--- "Each vehicle file is as long as its own counts say": of the bytes from its first on. There is no count where fewer than nine are left,
--- and all of them are the file
+-- "Each vehicle file is as long as its own counts say": of the bytes from its first on. Where fewer than nine are left `byteAt` is 0, so that
+-- the length is nine and all that is left is taken
 abbrev pub ownLength : List ℕ → ℕ
 ownLength bytes = VEHICLE-HEADER + AXLE * axlesOf bytes
 

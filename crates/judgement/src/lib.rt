@@ -5,7 +5,7 @@ ghost use Rattle.session.specs.Calls.{judgeFiles};
 ghost use Rattle.judgement.specs.Numbers.{numbersOf};
 use session::Judged;
 use session::judge_files;
-use session::yard::verdict_number;
+use session::verdict_number;
 
 // Number and place of a refusal, both 0 where there is none; then figure, governing place and verdict (1 pass, 0 refuse), all 0
 // where a file is refused. The host's declaration has the same fields in the same order.

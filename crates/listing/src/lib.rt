@@ -8,7 +8,7 @@ ghost use Rattle.files.specs.YardFile.{MOST-VEHICLES};
 use files::yard::MOST_VEHICLES;
 use rating::judging::Judgement;
 
-// The answer at an index.
+// The answer at an index, which is below the length: the default of `getD`, r itself, is never taken.
 fn answer_at(answers: [Judgement; MOST_VEHICLES], i: usize) -> Judgement
     requires { ⌜ i < MOST-VEHICLES ⌝ }
     ensures { λ r. ⌜ r ≡ getD answers i r ⌝ }

@@ -1,16 +1,15 @@
 -- The three demands hold: each part from the law of the crate whose matter it is, and from the cases of the calls' definitions.
 -- Assumes nothing.
-use Prim.Native.Nat.{ℕ, _+_, _*_, _≤_, _<_}
+use Prim.Native.Nat.{ℕ, _*_, _<_}
 use mathlib.Core.Path.{_≡_, refl, sym, ap, subst, _∙_}
 use mathlib.Core.Bool.{Bool, true, false, not}
 use mathlib.Core.List.{List, [], _∷_}
 use mathlib.Core.Logic.{_⊎_, inl, inr, ⊎-elim}
-use native.Mathlib.Nat.{add-sub-cancel}
 use native.Mathlib.Omega.{arith}
 use lib.Dec.{eqb, leb}
 use lib.ListN.{length}
 use lib.Seq.{take-at}
-use borrow.Author.Tests.{ne-eqb, eqb-false, le-leb, lt-leb}
+use borrow.Author.Tests.{ne-eqb, eqb-false, lt-leb}
 use Rattle.section.specs.Choose.{choose}
 use Rattle.rating.specs.Compare.{SamePlaces, Heavier}
 use Rattle.member.specs.Format.{AllowedMember, AllowedVehicle, In, _‥_}
@@ -38,7 +37,7 @@ use Rattle.files.specs.VehicleFile.{readVehicle, vehicleOf}
 use Rattle.files.specs.Words.{each}
 use Rattle.files.proofs.Each.{length-each, getD-each}
 use Rattle.files.specs.declared.Refusal.{Refusal}
-use Rattle.files.proofs.Tests.{first-is, rows-is, in-range, range-in, refutes}
+use Rattle.files.proofs.Tests.{first-is, rows-is, in-range, refutes}
 use Rattle.files.proofs.Surveys as surveys
 use Rattle.files.proofs.Vehicles as vehicles
 use Rattle.session.specs.Answers.{Outcome, Values, RefusedAt, refusedBy, judgementValues}
@@ -46,6 +45,7 @@ use Rattle.session.specs.Calls.{newSession, members, stateFault, rateFau
 use Rattle.session.specs.Demands.{Demand1, Demand2, Demand3}
 use Rattle.session.specs.Parts.{FromState, RefusedBoth, Answers, FilesAnswered, Covers, Falls, recordsOf}
 use Rattle.session.specs.History.{Holds, after}
+use Rattle.session.specs.YardCall.{no-survey}
 use Rattle.session.specs.declared.Session.{Session}
 use Rattle.session.proofs.History.{survey-stays, vehicle-stays, survey-last, last-held, in-turn, in-reverse, calls-valid}
 use Rattle.session.proofs.Loads.{never-both, reading-case, survey-read, vehicle-read, survey-load, vehicle-load, survey-refused, vehicle-refused, other-survey}
@@ -142,6 +142,8 @@ demand1 =
       rate-keeps = λ s place. refl;
       judge-keeps = λ s list. refl;
       list-kept = list-untouched;
+      yard-no-survey = λ calls h yard list.
+          yard-answered (after newSession calls) (calls-valid newSession calls valid-new) yard list .named 11 0 (no-survey (rw (survey-stays newSession calls h)));
       yard-answered = yard-answered;
     }
 

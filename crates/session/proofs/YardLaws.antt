@@ -2,37 +2,32 @@
 -- Assumes nothing.
 use Prim.Native.Nat.{ℕ, zero, suc, _+_, _-_, _*_, _≤_, _<_}
 use mathlib.Core.Path.{_≡_, refl, sym, ap, subst, _∙_}
-use mathlib.Core.Bool.{Bool, true, false, not}
 use mathlib.Core.List.{List, [], _∷_, _++_, map, append-nil}
 use mathlib.Core.Logic.{_⊎_, inl, inr, ⊎-elim}
 use native.Mathlib.Decide.{decLe}
 use native.Mathlib.Omega.{arith}
-use lib.Dec.{eqb, leb}
-use lib.ListN.{length, getD, take, drop, replicate, length-append, length-drop, length-map, List·getD-append, List·getD-map}
+use lib.ListN.{length, getD, take, drop, replicate, length-append, length-drop, length-map, List·getD-append}
 use lib.Seq.{take-at, getD-append-add, getD-drop}
-use borrow.Author.Tests.{eq-eqb, ne-eqb, le-leb, lt-leb}
-use Rattle.section.specs.Choose.{choose}
-use Rattle.member.specs.Format.{In, _‥_}
+use borrow.Author.Tests.{ne-eqb, le-leb, lt-leb}
+use Rattle.member.specs.Format.{_‥_}
 use Rattle.member.specs.Fields.{MOST-MEMBERS}
 use Rattle.rating.specs.Judgement.{judgementOf}
 use Rattle.files.specs.Allowed.{AllowedVehicleFile}
-use Rattle.files.specs.Reading.{_unless_, firstOf, isIn}
+use Rattle.files.specs.Reading.{firstOf, isIn}
 use Rattle.files.specs.Refused.{VehicleRefusal}
 use Rattle.files.specs.VehicleFile.{readVehicle, vehicleOf}
 use Rattle.files.specs.YardFile.{MOST-VEHICLES, AllowedYard, vehiclesOf, vehicleFiles, filesIn, leftAfter, leftOver, joined}
-use Rattle.files.specs.declared.Reading.the-variants.{Taken, Refused}
 use Rattle.files.specs.declared.Refusal.{Refusal}
 use Rattle.files.proofs.Tests.{in-range, range-in, refutes}
 use Rattle.files.proofs.Vehicles as vehicles
-use Rattle.files.proofs.Yards.{length-files, files-joined, joined-files, joined-left}
+use Rattle.files.proofs.Yards.{AllowedTo, length-files, files-joined, joined-files, joined-left}
 use Rattle.session.specs.Answers.{Answer, Outcome, Values, RefusedAt, refusedBy, valuesOf, judgementValues}
 use Rattle.session.specs.Calls.{Valid, members, loadVehicle, judge, thenJudge, unlessRefused}
-use Rattle.session.specs.Yard.{Entry, alone, vehicleAnswers, yardEntries, passing, firstRefusal, frontTests, endTests, yardAnswered, judgeYard, yardList}
+use Rattle.session.specs.Yard.{Entry, alone, vehicleAnswers, yardEntries, passing, firstRefusal, frontTests, yardAnswered, judgeYard, yardList}
 use Rattle.session.specs.YardCall.{fileAt, GoodBefore, Counted, YardFault, no-survey, no-count, wrong-count, faulty-vehicle, bytes-left, short-list, Passing, YardAnswered, YardFigures, YardTaken}
 use Rattle.session.specs.declared.Session.{Session}
-use Rattle.session.proofs.Loads.{never-both, reading-case, vehicle-read, vehicle-load, vehicle-refused}
+use Rattle.session.proofs.Loads.{never-both, reading-case, vehicle-load, vehicle-refused}
 use Rattle.session.proofs.State.{all-answers, few-members}
-use Rattle.session.proofs.YardRuns.{first-none, first-some}
 use Rattle.session.proofs.YardTests as tests
 
 -- a refused load is not judged
@@ -49,10 +44,10 @@ module _ (s : Session) (file : List ℕ) where
   loaded : AllowedVehicleFile file → loadVehicle s file ≡ record { session = with; answer = Values [] }
   loaded a = vehicle-load s file (vehicles.allowed-taken file a)
 
-  judged : 0 < s .survey .count → AllowedVehicleFile file → (room : List ℕ) → 2 * s .survey .count ≤ length room →
-      judge (loadVehicle s file .session) room .answer ≡ Values (judgementValues (judgementOf (members s) (vehicleOf file)))
-  judged h a room l =
-      ap (λ (o : Outcome). judge (o .session) room .answer) (loaded a) ∙ all-answers with h (a .vehicle .axles .0) .judged room l
+  judged : 0 < s .survey .count → AllowedVehicleFile file → (lent : List ℕ) → 2 * s .survey .count ≤ length lent →
+      judge (loadVehicle s file .session) lent .answer ≡ Values (judgementValues (judgementOf (members s) (vehicleOf file)))
+  judged h a lent l =
+      ap (λ (o : Outcome). judge (o .session) lent .answer) (loaded a) ∙ all-answers with h (a .vehicle .axles .0) .judged lent l
 
   alone-values : Valid s → 0 < s .survey .count → AllowedVehicleFile file → alone s file ≡ Values (judgementValues (judgementOf (members s) (vehicleOf file)))
   unfolding alone thenJudge
@@ -71,24 +66,15 @@ module _ (s : Session) (file : List ℕ) where
       (λ r e f. inr (r, vehicles.refused-named file r e))
       refl
 
--- a row of answers: none refused, or the first that is
-first-either : (row : List Answer) → (firstRefusal row (Values []) ≡ Values []) ⊎ ((n p : ℕ) × (firstRefusal row (Values []) ≡ RefusedAt n p))
-first-either [] = inl refl
-first-either (Values v ∷ row) = first-either row
-first-either (RefusedAt n p ∷ row) = inr (n, p, refl)
-
 module _ (s : Session) (v : Valid s) (h : 0 < s .survey .count) where
-  abbrev Allowed : List (List ℕ) → ℕ → Type 0
-  Allowed files n = (i : ℕ) → i < n → AllowedVehicleFile (getD files i [])
-
   -- files that are all allowed are not refused
-  all-good : (files : List (List ℕ)) → Allowed files (length files) → firstRefusal (map (alone s) files) (Values []) ≡ Values []
+  all-good : (files : List (List ℕ)) → AllowedTo files (length files) → firstRefusal (map (alone s) files) (Values []) ≡ Values []
   all-good [] a = refl
   all-good (file ∷ files) a =
       ap (λ (x : Answer). unlessRefused x x (firstRefusal (map (alone s) files) (Values []))) (alone-values s file v h (a 0 (omega arith))) ∙ all-good files (λ i l. a (suc i) (omega arith))
 
   -- the first faulty file is the refusal
-  first-faulty : (files : List (List ℕ)) (i : ℕ) → i < length files → Allowed files i → (r : Refusal) → VehicleRefusal (getD files i []) r →
+  first-faulty : (files : List (List ℕ)) (i : ℕ) → i < length files → AllowedTo files i → (r : Refusal) → VehicleRefusal (getD files i []) r →
       firstRefusal (map (alone s) files) (Values []) ≡ refusedBy r
   first-faulty [] i l a r f = absurd (omega arith)
   first-faulty (file ∷ files) zero l a r f =
@@ -98,17 +84,17 @@ module _ (s : Session) (v : Valid s) (h : 0 < s .survey .count) where
 
   -- and it is one of the two: all are allowed, or one is the first that is not
   abbrev Faulty : List (List ℕ) → Type 0
-  Faulty files = (i : ℕ) × (i < length files) × (Allowed files i) × ((r : Refusal) × VehicleRefusal (getD files i []) r)
+  Faulty files = (i : ℕ) × (i < length files) × (AllowedTo files i) × ((r : Refusal) × VehicleRefusal (getD files i []) r)
 
-  one-more : (file : List ℕ) (files : List (List ℕ)) (n : ℕ) → AllowedVehicleFile file → Allowed files n → Allowed (file ∷ files) (suc n)
+  one-more : (file : List ℕ) (files : List (List ℕ)) (n : ℕ) → AllowedVehicleFile file → AllowedTo files n → AllowedTo (file ∷ files) (suc n)
   one-more file files n a b zero l = a
   one-more file files n a b (suc i) l = b i (omega arith)
 
-  good-or-faulty : (files : List (List ℕ)) → Allowed files (length files) ⊎ Faulty files
+  good-or-faulty : (files : List (List ℕ)) → AllowedTo files (length files) ⊎ Faulty files
   good-or-faulty [] = inl (λ i l. absurd (omega arith))
   good-or-faulty (file ∷ files) = go (alone-either s file) (good-or-faulty files)
     where
-      go : AllowedVehicleFile file ⊎ ((r : Refusal) × VehicleRefusal file r) → Allowed files (length files) ⊎ Faulty files → Allowed (file ∷ files) (length (file ∷ files)) ⊎ Faulty (file ∷ files)
+      go : AllowedVehicleFile file ⊎ ((r : Refusal) × VehicleRefusal file r) → AllowedTo files (length files) ⊎ Faulty files → AllowedTo (file ∷ files) (length (file ∷ files)) ⊎ Faulty (file ∷ files)
       go (inr f) rest = inr (0, omega arith, (λ i l. absurd (omega arith)), f)
       go (inl a) (inl b) = inl (one-more file files (length files) a b)
       go (inl a) (inr (i, l, b, f)) = inr (suc i, omega arith, one-more file files i a b, f)
@@ -217,7 +203,7 @@ module _ (s : Session) (v : Valid s) (yard : List ℕ) where
       }
 
   module _ (list : List Entry) where
-    -- a lot that is judged has no fault
+    -- a yard that is judged has no fault
     judged-good : (n : ℕ) → Passing s yard list n → Good s v yard (length list)
     unfolding judgeYard
     judged-good n e =
@@ -251,7 +237,7 @@ module _ (s : Session) (v : Valid s) (yard : List ℕ) where
       figures =
           record {
             loaded = λ i l. ap (λ (o : Outcome). o .answer) (loaded s (fileAt yard i) (g .files i l));
-            judged = λ i l room r. judged s (fileAt yard i) (g .counted .survey) (g .files i l) room r ∙ ap Values (sym (entry i l));
+            judged = λ i l lent r. judged s (fileAt yard i) (g .counted .survey) (g .files i l) lent r ∙ ap Values (sym (entry i l));
             figures = entry;
             passes =
                 ap (λ (a : Answer). getD (valuesOf a) 0 0) (sym e ∙ taken s v yard (length list) g) ∙ ap passing (sym (ap (take (vehiclesOf yard)) (written g) ∙ take-at (yardEntries s yard) (drop (vehiclesOf yard) list) (vehiclesOf yard) as-many));
@@ -260,7 +246,7 @@ module _ (s : Session) (v : Valid s) (yard : List ℕ) where
                 ap length (written g) ∙ omega (arith, length-append (yardEntries s yard) (drop (vehiclesOf yard) list), length-drop (vehiclesOf yard) list, as-many, g .fits);
           }
 
--- what is claimed, of every session, all bytes and every list
+-- what is claimed, of every valid session, all bytes and every list
 pub yard-answered : (s : Session) → Valid s → (yard : List ℕ) (list : List Entry) → YardAnswered s yard list
 unfolding judgeYard yardList
 yard-answered s v yard list =

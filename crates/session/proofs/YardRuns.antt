@@ -17,7 +17,7 @@ use Rattle.rating.specs.declared.judging.Verdict.the-variants.{Pass, Refuse}
 use Rattle.session.specs.Answers.{Answer, Values, RefusedAt, loadAnswer, judgeAnswer, valuesOf, verdictNumber, judgementValues, refusedBy}
 use Rattle.session.specs.Calls.{unlessRefused}
 use Rattle.session.specs.Yard.{Entry, entries, alone, passing, firstRefusal}
-use Rattle.session.specs.YardRun.{answersTo, entriesTo, withAnswer, Going, Ran}
+use Rattle.session.specs.YardRun.{answersTo, entriesTo, withAnswer, Ran}
 use Rattle.session.specs.declared.Judged.{Judged}
 use Rattle.session.specs.declared.Judged.the-variants.{Figures}
 use Rattle.session.specs.declared.Judged.the-variants.{Refused as NotJudged}

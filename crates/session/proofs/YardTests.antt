@@ -12,12 +12,12 @@ use Rattle.section.specs.Choose.{choose}
 use Rattle.member.specs.Format.{In, _‥_}
 use Rattle.files.specs.Reading.{_unless_, firstOf, isIn}
 use Rattle.files.specs.YardFile.{MOST-VEHICLES, vehiclesOf, leftOver}
-use Rattle.files.specs.declared.Reading.the-variants.{Taken, Refused}
+use Rattle.files.specs.declared.Reading.the-variants.{Taken}
 use Rattle.files.specs.declared.Refusal.{Refusal}
 use Rattle.files.proofs.Tests.{none, passed, in-range}
 use Rattle.rating.specs.declared.judging.Judgement.{Judgement}
 use Rattle.session.specs.Answers.{Answer, Values, RefusedAt, loadAnswer, refusedBy}
-use Rattle.session.specs.Calls.{Valid, unlessRefused}
+use Rattle.session.specs.Calls.{Valid}
 use Rattle.session.specs.Yard.{vehicleAnswers, yardEntries, passing, firstRefusal, frontTests, endTests, test, yardAnswered}
 use Rattle.session.specs.YardRun.{Ran, Answered, refusedYard}
 use Rattle.session.specs.declared.Session.{Session}

@@ -7,9 +7,9 @@ use mathlib.Core.List.{List, [], _∷_, _++_, map, map-append}
 use lib.ListN.{length, take, drop, length-map}
 use Rattle.files.specs.YardFile.{vehiclesOf}
 use Rattle.rating.specs.declared.judging.Judgement.{Judgement}
-use Rattle.session.specs.Answers.{Answer, Values, RefusedAt, Outcome, yardJudged, judgementValues}
+use Rattle.session.specs.Answers.{Answer, Values, RefusedAt, yardJudged, judgementValues}
 use Rattle.session.specs.Calls.{Valid, unlessRefused}
-use Rattle.session.specs.Yard.{Entry, entries, yardEntries, yardAnswered, judgeYard, yardList}
+use Rattle.session.specs.Yard.{entries, yardEntries, yardAnswered, judgeYard, yardList}
 use Rattle.session.specs.YardRun.{Answered}
 use Rattle.session.specs.declared.Session.{Session}
 use Rattle.session.specs.declared.yard.YardAnswers.{YardAnswers}

@@ -1,5 +1,5 @@
 -- The three demands, each a record whose parts stand under the sentence that they state. proofs/Demands.antt proves each of them, of
--- the calls' definitions (Calls); the contracts of `Session` tie the code to those.
+-- the calls' definitions (Calls, Yard); the contracts of `Session` tie the code to those.
 use Prim.Native.Nat.{ℕ, _<_}
 use mathlib.Core.Path.{_≡_}
 use mathlib.Core.List.{List, [], _∷_}
@@ -22,7 +22,7 @@ use Rattle.session.specs.Answers.{Values, RefusedAt, refusedBy, judgemen
 use Rattle.session.specs.Calls.{Valid, newSession, members, loadSurvey, loadVehicle, rate, judge, judgeList, judgeFiles}
 use Rattle.session.specs.History.{Call, LoadSurvey, LoadVehicle, after, TakesSurvey, TakesVehicle, NoneTakes, LastTakes, TakenLast, Holds}
 use Rattle.session.specs.Parts.{FromState, RefusedBoth, Answers, FilesAnswered, Governs, Covers, Falls, permittedAt, vehicleLoadAt, judgementIn, recordsOf}
-use Rattle.session.specs.Yard.{Entry}
+use Rattle.session.specs.Yard.{Entry, judgeYard}
 use Rattle.session.specs.YardCall.{YardAnswered, YardTaken}
 use Rattle.session.specs.declared.Session.{Session}
 
@@ -57,6 +57,8 @@ pub record Demand1 : Type 0 where
   pub list-kept : (s : Session) (list : List ℕ) (n p : ℕ) →
       judge s list .answer ≡ RefusedAt n p → judgeList s list ≡ list
   -- the same of the yard's call, document 02, request 3/13
+  pub yard-no-survey : (calls : List Call) → NoneTakes TakesSurvey newSession calls → (yard : List ℕ) (list : List Entry) →
+      judgeYard (after newSession calls) yard list .answer ≡ RefusedAt 11 0
   pub yard-answered : (s : Session) → Valid s → (yard : List ℕ) (list : List Entry) → YardAnswered s yard list
 
 -- Demand 2.

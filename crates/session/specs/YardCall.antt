@@ -1,5 +1,5 @@
 -- What is claimed of the yard's call, each part under the sentence of document 02, request 3/13, that it states. `Demands` has it of every
--- session, all bytes and every list.
+-- valid session, all bytes and every list.
 use Prim.Native.Nat.{ℕ, _*_, _≤_, _<_}
 use mathlib.Core.Path.{_≡_}
 use mathlib.Core.List.{List, [], _∷_}
@@ -47,7 +47,7 @@ pub data YardFault (s : Session) (yard : List ℕ) (room : ℕ) : (number place 
   short-list : Counted s yard → GoodBefore yard (vehiclesOf yard) → leftOver yard ≡ [] → room < vehiclesOf yard → YardFault s yard room 14 0
 
 module _ (s : Session) (yard : List ℕ) (list : List Entry) where
-  -- the lot is judged, and so many vehicles pass
+  -- the yard is judged, and so many vehicles pass
   abbrev pub Passing : ℕ → Type 0
   Passing n = judgeYard s yard list .answer ≡ Values (n ∷ [])
 
@@ -61,12 +61,12 @@ module _ (s : Session) (yard : List ℕ) (list : List Entry) where
     -- "and nothing is written"
     pub list-kept : (n p : ℕ) → judgeYard s yard list .answer ≡ RefusedAt n p → yardList s yard list ≡ list
 
-  -- Of demand 2, where the lot is judged.
+  -- Of demand 2, where the yard is judged.
   pub record YardFigures (n : ℕ) : Type 0 where
     -- "Every answer is that of loading that vehicle alone and judging."
     pub loaded : (i : ℕ) → i < vehiclesOf yard → loadVehicle s (fileAt yard i) .answer ≡ Values []
-    pub judged : (i : ℕ) → i < vehiclesOf yard → (room : List ℕ) → 2 * s .survey .count ≤ length room →
-        judge (loadVehicle s (fileAt yard i) .session) room .answer ≡ Values (getD (yardList s yard list) i [])
+    pub judged : (i : ℕ) → i < vehiclesOf yard → (lent : List ℕ) → 2 * s .survey .count ≤ length lent →
+        judge (loadVehicle s (fileAt yard i) .session) lent .answer ≡ Values (getD (yardList s yard list) i [])
     -- so it is demand 2's judgement of that file
     pub figures : (i : ℕ) → i < vehiclesOf yard →
         getD (yardList s yard list) i [] ≡ judgementValues (judgementOf (members s) (vehicleOf (fileAt yard i)))
@@ -76,7 +76,7 @@ module _ (s : Session) (yard : List ℕ) (list : List Entry) where
     pub beyond : (i : ℕ) → vehiclesOf yard ≤ i → getD (yardList s yard list) i [] ≡ getD list i []
     pub length-kept : length (yardList s yard list) ≡ length list
 
-  -- the lot is judged exactly when a survey is loaded, the document allows the yard, and the list is long enough
+  -- the yard is judged exactly when a survey is loaded, the document allows the yard, and the list is long enough
   pub record YardTaken : Type 0 where
     pub taken : ((n : ℕ) × Passing n) ↔ ((0 < s .survey .count) × AllowedYard yard × (vehiclesOf yard ≤ length list))
     pub figures : (n : ℕ) → Passing n → YardFigures n

@@ -1,13 +1,14 @@
--- What the code of the yard keeps between two vehicles, and what it hands to the writer. No part of the claim.
+-- What the code of the yard keeps between two vehicles, and what `yard_answers` hands to whoever writes the answers (`Answered`). No part of
+-- the three demands.
 use Prim.Native.Nat.{ℕ, _+_, _≤_}
 use mathlib.Core.Path.{_≡_}
-use mathlib.Core.List.{List, [], _∷_, map}
+use mathlib.Core.List.{List, [], map}
 use lib.ListN.{length, take, drop, set}
 use Rattle.files.specs.YardFile.{MOST-VEHICLES, vehiclesOf, filesIn, leftAfter}
 use Rattle.files.specs.declared.Reading.the-variants.{Taken, Refused}
 use Rattle.files.specs.declared.Refusal.{Refusal}
 use Rattle.rating.specs.declared.judging.Judgement.{Judgement}
-use Rattle.session.specs.Answers.{Answer, Values, Outcome, loadAnswer, valuesOf, verdictNumber, yardJudged}
+use Rattle.session.specs.Answers.{Answer, Values, loadAnswer, valuesOf, verdictNumber, yardJudged}
 use Rattle.session.specs.Calls.{Valid, unlessRefused}
 use Rattle.session.specs.Yard.{Entry, alone, entries, yardEntries, passing, firstRefusal, yardAnswered}
 use Rattle.session.specs.declared.Judged.{Judged}

@@ -1,7 +1,7 @@
 // The session: the survey and the vehicle that are loaded, and the calls; `yard` has the one that judges a yard of vehicles. A session
 // goes in by value and comes back beside the answer.
 ghost use mathlib.Core.Path.{_≡_};
-ghost use Rattle.session.specs.Answers.{loaded, rated, judged, judgeAnswer};
+ghost use Rattle.session.specs.Answers.{verdictNumber, loaded, rated, judged, judgeAnswer};
 ghost use Prim.Native.Nat.{_≤_};
 ghost use Rattle.member.specs.Fields.{MOST-MEMBERS};
 ghost use Rattle.session.specs.Calls.{Valid, newSession, loadSurvey, loadVehicle, stateFault, rateFault, judgeFault, rate, judge, judgeList, loadFiles, thenJudge, judgeFiles};
@@ -20,6 +20,7 @@ use member::record::Vehicle;
 use rating::judging;
 use rating::judging::Judgement;
 use rating::judging::Rating;
+use rating::judging::Verdict;
 
 // A survey with count 0, or a vehicle with no axles, is not loaded.
 pub struct Session {
@@ -219,6 +220,16 @@ pub fn load_files(survey: &[u8], vehicle: &[u8]) -> AfterLoad
             session.load_vehicle(vehicle)
         }
         Reading::Refused(_) => first,
+    }
+}
+
+// 1 for pass, 0 for refuse.
+pub fn verdict_number(v: Verdict) -> u64
+    ensures { λ r. ⌜ r ≡ verdictNumber v ⌝ }
+{
+    match v {
+        Verdict::Pass => 1,
+        Verdict::Refuse => 0,
     }
 }
 

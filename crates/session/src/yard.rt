@@ -2,6 +2,7 @@
 use crate::Judged;
 use crate::Session;
 use crate::judge_loaded;
+use crate::verdict_number;
 use files::Reading;
 use files::Refusal;
 use files::yard::MOST_VEHICLES;
@@ -15,7 +16,7 @@ ghost use Prim.Native.Nat.{_+_, _≤_, _<_};
 ghost use lib.ListN.{length};
 ghost use Rattle.files.specs.Reading.{firstOf};
 ghost use Rattle.files.specs.YardFile.{MOST-VEHICLES, vehiclesOf};
-ghost use Rattle.session.specs.Answers.{judgeAnswer, verdictNumber, yardJudged};
+ghost use Rattle.session.specs.Answers.{judgeAnswer, yardJudged};
 ghost use Rattle.session.specs.Calls.{Valid};
 ghost use Rattle.session.specs.Yard.{alone, frontTests, endTests, entries, judgeYard, yardList};
 ghost use Rattle.session.specs.YardRun.{Ran, Answered, withAnswer, refusedYard};
@@ -44,16 +45,6 @@ struct Run {
     at: usize,
     passes: u64,
     answers: [Judgement; MOST_VEHICLES],
-}
-
-// 1 for a pass, 0 for a refusal.
-pub fn verdict_number(v: Verdict) -> u64
-    ensures { λ r. ⌜ r ≡ verdictNumber v ⌝ }
-{
-    match v {
-        Verdict::Pass => 1,
-        Verdict::Refuse => 0,
-    }
 }
 
 // No vehicle yet: the first file stands behind the count.
@@ -139,7 +130,7 @@ fn judge_each(session: Session, yard: &[u8], count: usize) -> Run
 }
 
 fn wide(byte: u8) -> usize
-    ensures { λ r. ⌜ (r ≡ byte) × (r < 256) ⌝ }
+    ensures { λ r. ⌜ r ≡ byte ⌝ }
 {
     byte as usize
 }

@@ -1,4 +1,6 @@
--- `listing::answer_at` meets its contract: it returns the element at i. The machine's load is `getD` at a default of its own, and reading the same place again with that element for the default gives the same element (`twice`).
+-- `listing::answer_at` meets its contract: it returns the element at i. The load is `getD` at a default of its own, and reading the same place again
+-- with that element for the default gives the same element (`twice`).
+-- Assumes nothing.
 use mathlib.Core.Path.{_≡_, refl}
 use Prim.Native.Nat.{ℕ, zero, suc}
 use mathlib.Core.List.{List, [], _∷_}

@@ -34,7 +34,7 @@ use denote.Exit.{yes}
 use denote.RattleType.{RattleType, owns}
 use denote.Shadow.{pureI}
 use denote.Laws.{Is, shows}
-use denote.Memory.{mem, pointee}
+use denote.Memory.{pointee}
 use denote.Array.{Array, array-vals, array-tells, array-typed, array-makes}
 use denote.Plain.{uint-vals, uint-tells, uint-makes}
 use denote.Builtin.{usize}

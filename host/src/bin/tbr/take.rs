@@ -115,7 +115,7 @@ pub fn file(input: &Input) -> Result<Taken, Failure> {
         Look::Yard => Err(refused("a yard, which has no text form".to_string())
             .hint(format!("'tbr show {}' shows its vehicles", input.name))),
         Look::OtherText | Look::Other => {
-            Err(refused("neither a survey (TBR) nor a vehicle (TBV)".to_string()))
+            Err(refused("neither a survey (TBR), a vehicle (TBV) nor a yard of vehicles".to_string()))
         }
     }
 }

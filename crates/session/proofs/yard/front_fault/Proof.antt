@@ -24,13 +24,13 @@ returns-3 : tie.Need-returns-3
 returns-3 c =
     let b = c .before .before .before in
     let n = c .before .wide .result in
-    rw (ne-eqb _ _ (b .before .if1 .left), le-leb _ _ (b .if2 .left), ← (c .before .wide .ensures .0), not-true (leb 1 n && leb n MOST-VEHICLES) (c .if3 .taken))
+    rw (ne-eqb _ _ (b .before .if1 .left), le-leb _ _ (b .if2 .left), ← (c .before .wide .ensures), not-true (leb 1 n && leb n MOST-VEHICLES) (c .if3 .taken))
 
 returns-4 : tie.Need-returns-4
 returns-4 c =
     let b = c .before .before .before in
     let n = c .before .wide .result in
-    rw (ne-eqb _ _ (b .before .if1 .left), le-leb _ _ (b .if2 .left), ← (c .before .wide .ensures .0), not-false (leb 1 n && leb n MOST-VEHICLES) (c .if3 .left))
+    rw (ne-eqb _ _ (b .before .if1 .left), le-leb _ _ (b .if2 .left), ← (c .before .wide .ensures), not-false (leb 1 n && leb n MOST-VEHICLES) (c .if3 .left))
 
 pub front-fault-spec : {M : Type 1} → statement M
 front-fault-spec =

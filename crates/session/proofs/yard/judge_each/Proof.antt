@@ -3,7 +3,6 @@
 use Prim.Native.Nat.{ℕ, _≤_, _-_}
 use mathlib.Core.Path.{_≡_, subst}
 use native.Mathlib.Omega.{arith}
-use borrow.Author.Needs.{needs}
 use Rattle.session.specs.YardRun.{Ran}
 use Rattle.session.proofs.YardRuns.{ran-none}
 use Rattle.session.proofs.yard.judge_each.Statement.{statement}

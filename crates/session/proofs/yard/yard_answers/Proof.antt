@@ -8,7 +8,6 @@ use Rattle.files.specs.Reading.{firstOf}
 use Rattle.files.specs.YardFile.{MOST-VEHICLES, vehiclesOf}
 use Rattle.session.specs.Yard.{frontTests}
 use Rattle.session.proofs.YardTests.{front-clear, front-refused, answered-refused}
-use borrow.Author.Needs.{needs}
 use Rattle.session.proofs.yard.yard_answers.Statement.{statement}
 use Rattle.session.proofs.yard.yard_answers.Tie as tie
 
@@ -43,12 +42,12 @@ wide-requires c κs = tt
 judge-each-requires : tie.Need-judge-each-requires
 judge-each-requires c κs =
     let h = cleared (c .before .before) in
-    (c .before .before .before .before .before .before .pre, h .1, rw (c .wide .ensures .0) (h .2 .1))
+    (c .before .before .before .before .before .before .pre, h .1, rw (c .wide .ensures) (h .2 .1))
 
 found-requires : tie.Need-found-requires
 found-requires c κs =
     let w = c .before in
-    (w .before .before .before .before .before .before .pre, no-front (w .before .before), w .wide .ensures .0, c .judge-each .ensures)
+    (w .before .before .before .before .before .before .pre, no-front (w .before .before), w .wide .ensures, c .judge-each .ensures)
 
 returns-2 : tie.Need-returns-2
 returns-2 c = c .found .ensures
