@@ -114,9 +114,9 @@ pub fn file(input: &Input) -> Result<Taken, Failure> {
             .hint(format!("'tbr make {} FILE' makes the file of it", input.name))),
         Look::Yard => Err(refused("a yard, which has no text form".to_string())
             .hint(format!("'tbr show {}' shows its vehicles", input.name))),
-        Look::OtherText | Look::Other => {
-            Err(refused("neither a survey (TBR), a vehicle (TBV) nor a yard of vehicles".to_string()))
-        }
+        Look::OtherText | Look::Other => Err(refused(
+            "neither a survey (TBR), a vehicle (TBV) nor a yard of vehicles".to_string(),
+        )),
     }
 }
 
