@@ -9,7 +9,7 @@ struct Factors {
     s: u64,
 }
 
-// Table 2 line by line. A code past the last line has no factors, and the tables of the definition give 0 there too.
+// Table 2 line by line, after pine, the wood of table 1. A code past the last line has no factors: 0, as in the definition.
 fn species_factors(species: usize) -> Factors
     requires { ⌜ 1 ≤ species ⌝ }
     ensures { λ r. ⌜ (r .k ≡ bendingTenths species) × (r .s ≡ shearTenths species) ⌝ }
