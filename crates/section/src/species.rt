@@ -3,13 +3,13 @@ ghost use mathlib.Core.Path.{_≡_};
 ghost use Prim.Native.Nat.{_≤_};
 ghost use Rattle.section.specs.Species.{bendingTenths, shearTenths};
 
-// A species' factors: K for bending and tension, S for shear.
+// A species' factors, in tenths: K for bending and tension, S for shear.
 struct Factors {
     k: u64,
     s: u64,
 }
 
-// Table 2 line by line, after pine, the wood of table 1. A code past the last line has no factors: 0, as in the definition.
+// Pine, the wood of table 1, then table 2 line by line. A code past the last line has no factors: 0, as in the definition.
 fn species_factors(species: usize) -> Factors
     requires { ⌜ 1 ≤ species ⌝ }
     ensures { λ r. ⌜ (r .k ≡ bendingTenths species) × (r .s ≡ shearTenths species) ⌝ }

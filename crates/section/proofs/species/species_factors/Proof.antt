@@ -32,11 +32,11 @@ returns-7 c = rw (c .match .keys7) (refl, refl)
 returns-8 : tie.Need-returns-8
 returns-8 c = rw (c .match .keys8) (refl, refl)
 
--- a number from k on that is none of four from k on is past them
+-- a number of at least k that is none of k, k + 1, k + 2 and k + 3 is at least k + 4
 past-four : (k n : ℕ) → k ≤ n → (n ≡ k → ⊥) → (n ≡ k + 1 → ⊥) → (n ≡ k + 2 → ⊥) → (n ≡ k + 3 → ⊥) → k + 4 ≤ n
 past-four k n from n₀ n₁ n₂ n₃ = omega arith
 
--- and neither table has an entry past the eighth
+-- neither table has an entry past the eighth
 past-the-table : (n : ℕ) → 9 ≤ n → (0 ≡ bendingTenths n) × (0 ≡ shearTenths n)
 past-the-table n past =
     let end : 8 ≤ n - 1 = omega arith in (rw (List·getD-eq-default bendingTable 0 {n = n - 1} end), rw (List·getD-eq-default shearTable 0 {n = n - 1} end))
