@@ -1,4 +1,4 @@
--- Laws of `each`, the list f 0, .., f (n - 1): it is n long, has f i at i, and a loop that stores f i at i over blanks makes it
+-- Laws of `each`, the list f 0, .., f (n - 1): it is n long, has f i at i, is that of any f with the same values, and a loop that stores f i at i over blanks makes it
 -- one longer.
 use Prim.Native.Nat.{ℕ, zero, suc, _+_, _-_, _<_}
 use mathlib.Core.Path.{_≡_, refl, ap, sym, _∙_}
@@ -35,6 +35,11 @@ module _ {ℓ} {X : Type ℓ} (f : ℕ → X) where
       rw (add-one, left) (set-at (each f i) blank (replicate (room - suc i) blank) (f i) i (length-each i) ∙ sym (append-snoc (each f i) (f i) (replicate (room - suc i) blank)))
 
 module _ {ℓ} {X : Type ℓ} where
+  -- functions that agree below n give the same list
+  pub each-same : {f g : ℕ → X} (n : ℕ) → ((i : ℕ) → i < n → f i ≡ g i) → each f n ≡ each g n
+  each-same zero h = refl
+  each-same (suc n) h = rw (each-same n (λ i l. h i (omega arith)), h n (omega arith))
+
   pub getD-padded : (f : ℕ → X) (n i : ℕ) (pad : List X) (d : X) → i < n → getD (each f n ++ pad) i d ≡ f i
   getD-padded f n i pad d h =
       let within : i < length (each f n) = omega (arith, length-each f n) in

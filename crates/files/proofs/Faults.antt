@@ -22,8 +22,13 @@ use Rattle.files.proofs.Each.{each-split, length-each}
 abbrev pub refusal : (number place : ℕ) → Reading
 refusal number place = Refused (record { number = number; place = place })
 
-refused-not : (number place : ℕ) → refusal number place ≡ Taken → ⊥
+pub refused-not : (number place : ℕ) → refusal number place ≡ Taken → ⊥
 refused-not number place e = let z : _≡_ {A = ℕ} 0 1 = cc in omega arith
+
+-- an answer is one of the two
+pub reading-case : (a : Reading) (P : Reading → Type 0) → (a ≡ Taken → P Taken) → ((r : Refusal) → a ≡ Refused r → P (Refused r)) → P a
+reading-case Taken P t f = t refl
+reading-case (Refused r) P t f = f r refl
 
 -- a fault of the head is the answer; after a good head the rest decide
 pub head-first : (place n head : ℕ) (rest : List ℕ) → head ≡ n → (n ≡ 0 → ⊥) → firstFault place (head ∷ rest) ≡ refusal n place

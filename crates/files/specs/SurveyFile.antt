@@ -36,6 +36,10 @@ surveyHeader bytes = headerFault 82 SURVEY-HEADER MOST-MEMBERS RECORD bytes
 abbrev pub recordAt : List ℕ → ℕ → Member
 recordAt bytes i = record { fields = words bytes (SURVEY-HEADER + RECORD * i) FIELDS }
 
+-- the records of a file, as many as its count says
+abbrev pub recordsOf : List ℕ → List Member
+recordsOf bytes = each (recordAt bytes) (countOf bytes)
+
 -- a field is 0 where the record does not use it
 unfoldable pub zeroed : Member → ℕ → Bool
 zeroed m f = used (field m KIND) (field m CODE) f || eqb (field m f) 0
@@ -83,7 +87,7 @@ blankSurvey = record { count = 0; members = replicate MOST-MEMBERS blankMember }
 -- the file's records, and blank ones after them
 abbrev pub surveyOf : List ℕ → Survey
 surveyOf bytes =
-    record { count = countOf bytes; members = each (recordAt bytes) (countOf bytes) ++ replicate (MOST-MEMBERS - countOf bytes) blankMember }
+    record { count = countOf bytes; members = recordsOf bytes ++ replicate (MOST-MEMBERS - countOf bytes) blankMember }
 
 -- a refused file gives a blank survey
 abbrev pub surveyBy : Reading → List ℕ → Survey

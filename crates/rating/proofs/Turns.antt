@@ -97,7 +97,7 @@ unfolding written
 written-length v ms list h = simp (length-append, length-drop) (omega (arith, loads-length v ms))
 
 -- two numbers stored after the first k, which stand before the rest of the list
-pair-stored :
+pub pair-stored :
     (xs list : List ℕ) (k a b : ℕ) → length xs ≡ k → k + 2 ≤ length list →
     set (set (xs ++ drop k list) k a) (suc k) b ≡ xs ++ (a ∷ b ∷ []) ++ drop (k + 2) list
 pair-stored xs list k a b e h =

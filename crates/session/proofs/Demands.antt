@@ -32,7 +32,7 @@ use Rattle.rating.proofs.Surveys.{members-counted, members-allowed}
 use Rattle.files.specs.Allowed.{AllowedSurveyFile, AllowedVehicleFile}
 use Rattle.files.specs.Refused.{SurveyRefusal, VehicleRefusal}
 use Rattle.files.specs.Reading.{_unless_, isIn}
-use Rattle.files.specs.SurveyFile.{countOf, recordAt, readSurvey, surveyOf}
+use Rattle.files.specs.SurveyFile.{countOf, recordAt, recordsOf, readSurvey, surveyOf}
 use Rattle.files.specs.VehicleFile.{readVehicle, vehicleOf}
 use Rattle.files.specs.Words.{each}
 use Rattle.files.proofs.Each.{length-each, getD-each}
@@ -43,7 +43,7 @@ use Rattle.files.proofs.Vehicles as vehicles
 use Rattle.session.specs.Answers.{Outcome, Values, RefusedAt, refusedBy, judgementValues}
 use Rattle.session.specs.Calls.{newSession, members, stateFault, rateFault, judgeFault, loadSurvey, loadVehicle, storedSurvey, storedVehicle, unlessFault, rate, judge, judgeList, loadFiles, thenJudge, judgeFiles}
 use Rattle.session.specs.Demands.{Demand1, Demand2, Demand3}
-use Rattle.session.specs.Parts.{FromState, RefusedBoth, Answers, FilesAnswered, Covers, Falls, recordsOf}
+use Rattle.session.specs.Parts.{FromState, RefusedBoth, Answers, FilesAnswered, Covers, Falls}
 use Rattle.session.specs.History.{Holds, after}
 use Rattle.session.specs.YardCall.{no-survey}
 use Rattle.session.specs.declared.Session.{Session}

@@ -6,9 +6,9 @@ use mathlib.Core.Bool.{Bool, true, false}
 use mathlib.Core.List.{List, []}
 use Rattle.files.specs.SurveyFile.{readSurvey, surveyOf}
 use Rattle.files.specs.VehicleFile.{readVehicle, vehicleOf}
-use Rattle.files.specs.declared.Reading.{Reading}
 use Rattle.files.specs.declared.Reading.the-variants.{Taken, Refused}
 use Rattle.files.specs.declared.Refusal.{Refusal}
+use Rattle.files.proofs.Faults.{reading-case}
 use Rattle.files.proofs.Surveys as surveys
 use Rattle.files.proofs.Vehicles as vehicles
 use Rattle.session.specs.Answers.{Answer, Values, RefusedAt, refusedBy}
@@ -22,10 +22,6 @@ isRefusal (RefusedAt n p) = true
 
 pub never-both : {X : Type 0} (values : List ℕ) (n p : ℕ) → Values values ≡ RefusedAt n p → X
 never-both values n p e = absurd (mathlib.Core.Bool.false≢true (ap isRefusal e))
-
-pub reading-case : (a : Reading) (P : Reading → Type 0) → (a ≡ Taken → P Taken) → ((r : Refusal) → a ≡ Refused r → P (Refused r)) → P a
-reading-case Taken P t f = t refl
-reading-case (Refused r) P t f = f r refl
 
 -- a load that takes its file, by its answer
 module _ (s : Session) (bytes : List ℕ) where

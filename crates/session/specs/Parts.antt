@@ -20,9 +20,8 @@ use Rattle.rating.specs.declared.judging.Rating.{Rating}
 use Rattle.rating.specs.declared.judging.Verdict.the-variants.{Refuse}
 use Rattle.member.specs.declared.record.Member.{Member}
 use Rattle.member.specs.declared.record.Vehicle.{Vehicle}
-use Rattle.files.specs.SurveyFile.{countOf, recordAt}
+use Rattle.files.specs.SurveyFile.{countOf, recordAt, recordsOf}
 use Rattle.files.specs.VehicleFile.{vehicleOf}
-use Rattle.files.specs.Words.{each}
 use Rattle.session.specs.Answers.{Answer, Values, RefusedAt, ratingValues, judgementValues}
 use Rattle.session.specs.Calls.{members, rate, judge, judgeList}
 use Rattle.session.specs.declared.Session.{Session}
@@ -81,10 +80,6 @@ pub record Covers (m : Member) (v : Vehicle) (load : ℕ) : Type 0 where
   pub one-way : (u : ℕ) → oneWay m v u ⊑ whole load
   pub other-way : (u : ℕ) → otherWay m v u ⊑ whole load
   pub near : ((u : ℕ) × (whole load ⊏ oneWay m v u ⊕ whole 1)) ⊎ ((u : ℕ) × (whole load ⊏ otherWay m v u ⊕ whole 1))
-
--- the members' records of a survey file
-abbrev pub recordsOf : (survey : List ℕ) → List Member
-recordsOf survey = each (recordAt survey) (countOf survey)
 
 -- what rate and judge answer and write in a session that holds two files, by these files' own records, and that the figures are those
 -- of demand 3

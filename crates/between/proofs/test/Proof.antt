@@ -1,0 +1,13 @@
+-- `between::test` meets its contract: a test that holds is no refusal.
+-- Assumes nothing.
+use Rattle.between.proofs.test.Statement.{statement}
+use Rattle.between.proofs.test.Tie as tie
+
+returns : tie.Need-returns
+returns c = rw (c .if1 .taken)
+
+returns-2 : tie.Need-returns-2
+returns-2 c = rw (c .if1 .left)
+
+pub test-spec : {M : Type 1} → statement M
+test-spec = tie.close (tie.spec returns returns-2)

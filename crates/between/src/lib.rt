@@ -1,0 +1,98 @@
+// Rot between two readings: two surveys of one bridge, the second as worn or more. Of every member the lowest and the highest permitted load,
+// and whether the vehicle passes for all surveys between the two.
+ghost use mathlib.Core.Path.{_≡_};
+ghost use Prim.Native.Nat.{_*_, _≤_, _<_};
+ghost use lib.ListN.{length};
+ghost use Rattle.member.specs.Format.{AllowedVehicle};
+ghost use Rattle.files.specs.SurveyFile.{readSurvey};
+ghost use Rattle.between.specs.Between.{test, orElse, pairAnswer, betweenAnswered, betweenList};
+
+pub mod bounds;
+pub mod order;
+
+use bounds::fill;
+use files::Reading;
+use files::Refusal;
+use files::survey::read_survey;
+use member::record::Survey;
+use member::record::Vehicle;
+use order::order_answer;
+
+// The vehicle passes for all surveys between the two, for none, or the two ends differ.
+pub enum Between {
+    All,
+    None,
+    Undecided,
+}
+
+// What the call gives: the verdict, or a refusal.
+pub enum BetweenJudged {
+    Verdict(Between),
+    Refused(Refusal),
+}
+
+// Both surveys, and the first refusal of the two files and of their order.
+struct Pair {
+    answer: Reading,
+    first: Survey,
+    second: Survey,
+}
+
+// The number at place 0 where the test fails.
+fn test(number: u64, holds: bool) -> Reading
+    ensures { λ r. ⌜ r ≡ test number holds ⌝ }
+{
+    if holds {
+        Reading::Taken
+    } else {
+        Reading::Refused(Refusal { number, place: 0 })
+    }
+}
+
+// The earlier answer where it is a refusal.
+fn or_else(earlier: Reading, later: Reading) -> Reading
+    ensures { λ r. ⌜ r ≡ orElse earlier later ⌝ }
+{
+    match earlier {
+        Reading::Taken => later,
+        Reading::Refused(_) => earlier,
+    }
+}
+
+// Reads both files, and compares what was read.
+fn read_pair(first: &[u8], second: &[u8]) -> Pair
+    ensures answer { λ r. ⌜ r .answer ≡ pairAnswer (now (first .entry)) (now (second .entry)) ⌝ }
+    ensures first { λ r. ⌜ r .first ≡ readSurvey (now (first .entry)) .survey ⌝ }
+    ensures second { λ r. ⌜ r .second ≡ readSurvey (now (second .entry)) .survey ⌝ }
+{
+    let a = read_survey(first);
+    let b = read_survey(second);
+    let lower = a.survey;
+    let upper = b.survey;
+    let own = a.answer;
+    let other = b.answer;
+    let answer = or_else(own, or_else(other, order_answer(lower, upper)));
+    Pair {
+        answer,
+        first: lower,
+        second: upper,
+    }
+}
+
+// The bounds of two survey files for a vehicle, into the list, and the verdict. A vehicle with no axles is not loaded.
+pub fn judge_between(v: Vehicle, first: &[u8], second: &[u8], list: &mut [u64]) -> BetweenJudged
+    requires { ⌜ (0 < v .axles → AllowedVehicle v) ⌝ }
+    ensures is { λ r. ⌜ r ≡ betweenAnswered v (now (first .entry)) (now (second .entry)) (length (now (list .entry))) ⌝ }
+    ensures list { λ r. ⌜ now (list .exit) ≡ betweenList v (now (first .entry)) (now (second .entry)) (now (list .entry)) ⌝ }
+{
+    let pair = read_pair(first, second);
+    let lower = pair.first;
+    let upper = pair.second;
+    let files = pair.answer;
+    let room = test(14, 2 * lower.count <= list.len());
+    let answer = or_else(test(12, v.axles != 0), or_else(files, room));
+    match answer {
+        Reading::Taken => BetweenJudged::Verdict(fill(lower, upper, v, list)),
+        Reading::Refused(r) => BetweenJudged::Refused(r),
+    }
+}
