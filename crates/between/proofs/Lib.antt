@@ -1,3 +1,5 @@
 pub mod Orders
 pub mod Lists
 pub mod Pairs
+pub mod Named
+pub mod Within

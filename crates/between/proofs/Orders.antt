@@ -2,13 +2,15 @@
 -- Assumes nothing.
 use Prim.Native.Nat.{ℕ, zero, suc, _+_, _-_, _≤_, _<_}
 use mathlib.Core.Path.{_≡_, refl, sym, ap, _∙_}
-use mathlib.Core.Bool.{Bool, true, false, not, _&&_, _||_, and-true, and-false, or-false}
+use mathlib.Core.Bool.{Bool, true, false, not, _&&_, _||_, and-true, and-false, or-true, or-false, false≢true}
 use mathlib.Core.List.{List, [], _∷_}
+use mathlib.Core.Logic.{_⊎_, inl, inr, ⊎-elim}
 use native.Mathlib.Decide.{ℕ-discrete}
 use native.Mathlib.Omega.{arith}
 use lib.Dec.{eqb, leb}
 use borrow.Author.Tests.{eqb-true, eqb-false, eq-eqb, ne-eqb, le-leb, leb-true}
 use Rattle.section.specs.Choose.{choose, all}
+use Rattle.section.proofs.Table.{all-at}
 use Rattle.member.specs.Fields.{KIND, CODE, DEAD-LOAD, MU-B, FIELDS, field}
 use Rattle.member.specs.Format.{holds}
 use Rattle.member.specs.Wear.{rotFields, lostFields, rots, wears, Worn, SpreadKept}
@@ -18,7 +20,9 @@ use Rattle.files.specs.SurveyFile.{countOf, recordAt}
 use Rattle.files.specs.Words.{each}
 use Rattle.files.specs.declared.Reading.the-variants.{Taken, Refused}
 use Rattle.files.proofs.Faults.{refusal, refused-not, head-first, head-clear, taken-none, none-taken, fault-at, refused-at}
-use Rattle.between.specs.Order.{mustStay, mayGrow, fieldOrdered, ordered, Ordered, orderAnswer, orderOf}
+use Rattle.files.proofs.Each.{getD-each}
+use Rattle.files.proofs.Tests.{both, all-of, passed, refutes}
+use Rattle.between.specs.Order.{mustStay, mayGrow, fieldOrdered, ordered, Ordered, orderAnswer, orderOf, OrderedBefore, InOrder}
 
 -- the dead load is no rot and no lost area of any section
 neither-holds : (n : ℕ) (b : Bool) (xs ys : List ℕ) → holds n xs ≡ false → holds n ys ≡ false → holds n (choose b xs ys) ≡ false
@@ -84,3 +88,100 @@ order-count first second e =
       | yes same ↦ same
       | no other ↦ absurd (refused-not 15 0 (sym (count-differs _ _ _ _ other) ∙ e))
     ]
+
+-- a field that may not grow is equal, and any is as great
+as-great : (g : Bool) (x y : ℕ) → choose g (leb x y) (eqb x y) ≡ true → x ≤ y
+as-great true x y e = leb-true x y e
+as-great false x y e = omega (arith, eqb-true x y e)
+
+equal : (g : Bool) (x y : ℕ) → choose g (leb x y) (eqb x y) ≡ true → g ≡ false → x ≡ y
+equal true x y e n = absurd (false≢true (sym n))
+equal false x y e n = eqb-true x y e
+
+-- what wears may grow, unless it must stay
+module _ (kind code f : ℕ) where
+  no-wear : wears kind code f ≡ false → mayGrow kind code f ≡ false
+  unfolding mayGrow
+  no-wear e = rw e
+
+  kept-rot : kind ≡ 7 → rots 7 code f ≡ true → mayGrow kind code f ≡ false
+  unfolding mayGrow mustStay
+  kept-rot k e = rw (k, e, and-false)
+
+  kept-loss : kind ≡ 7 → holds f (lostFields code) ≡ true → mayGrow kind code f ≡ false
+  unfolding mayGrow mustStay
+  kept-loss k e = rw (k, e, or-true, and-false)
+
+  grows-wears : mayGrow kind code f ≡ true → wears kind code f ≡ true
+  unfolding mayGrow
+  grows-wears e = both (wears kind code f) _ e .0
+
+  -- and what may not grow does not wear, or is rot or a loss of kind 7
+  stays : mayGrow kind code f ≡ false →
+      (wears kind code f ≡ false) ⊎ ((kind ≡ 7) × ((rots 7 code f ≡ true) ⊎ (holds f (lostFields code) ≡ true)))
+  unfolding mayGrow mustStay
+  stays e = go (wears kind code f) (eqb kind 7) (rots kind code f) (holds f (lostFields code)) refl refl refl e
+    where
+      go : (w seven r l : Bool) → eqb kind 7 ≡ seven → rots kind code f ≡ r → holds f (lostFields code) ≡ l → (w && not (seven && (r || l))) ≡ false →
+          (w ≡ false) ⊎ ((kind ≡ 7) × ((rots 7 code f ≡ true) ⊎ (l ≡ true)))
+      go false seven r l k a b e = inl refl
+      go true false r l k a b e = absurd (false≢true (sym e))
+      go true true true l k a b e = let seven = eqb-true kind 7 k in inr (seven, inl (rw seven at a))
+      go true true false true k a b e = inr (eqb-true kind 7 k, inr refl)
+      go true true false false k a b e = absurd (false≢true (sym e))
+
+-- a record in order, by the test and in plain words
+module _ (m m' : Member) where
+  pub test-ordered : ordered m m' ≡ true → Ordered m m'
+  unfolding ordered
+  test-ordered e =
+      let at : (f : ℕ) → f < FIELDS → fieldOrdered m m' f ≡ true = λ f l. all-at (fieldOrdered m m') FIELDS e f l in
+      let same : (f : ℕ) → f < FIELDS → mayGrow (field m KIND) (field m CODE) f ≡ false → field m f ≡ field m' f = λ f l. equal (mayGrow (field m KIND) (field m CODE) f) _ _ (at f l) in
+      record {
+        worn =
+            record {
+              greater = λ f l w. as-great (mayGrow (field m KIND) (field m CODE) f) _ _ (at f l);
+              alike = λ f l w. same f l (no-wear (field m KIND) (field m CODE) f w);
+            };
+        same-rot = λ k f l r. same f l (kept-rot (field m KIND) (field m CODE) f k r);
+        same-losses = λ k f l r. same f l (kept-loss (field m KIND) (field m CODE) f k r);
+      }
+
+  pub ordered-test : Ordered m m' → ordered m m' ≡ true
+  unfolding ordered
+  ordered-test o = all-of (fieldOrdered m m') FIELDS (λ f l. go f l (mayGrow (field m KIND) (field m CODE) f) refl)
+    where
+      go : (f : ℕ) → f < FIELDS → (g : Bool) → mayGrow (field m KIND) (field m CODE) f ≡ g → choose g (leb (field m f) (field m' f)) (eqb (field m f) (field m' f)) ≡ true
+      go f l true e = le-leb _ _ (o .worn .greater f l (grows-wears (field m KIND) (field m CODE) f e))
+      go f l false e =
+          eq-eqb _ _
+          (⊎-elim (λ w. o .worn .alike f l w) (λ (k, s). ⊎-elim (λ r. o .same-rot k f l r) (λ r. o .same-losses k f l r) s)
+          (stays (field m KIND) (field m CODE) f e))
+
+-- two surveys, by the tests and in plain words
+module _ (first second : List ℕ) where
+  at-fault : (i : ℕ) → ¬ (Ordered (recordAt first i) (recordAt second i)) → 15 unless ordered (recordAt first i) (recordAt second i) ≡ 15
+  at-fault i n = rw (refutes (ordered (recordAt first i) (recordAt second i)) (test-ordered _ _) n)
+
+  pub no-fault : (i : ℕ) → Ordered (recordAt first i) (recordAt second i) → 15 unless ordered (recordAt first i) (recordAt second i) ≡ 0
+  no-fault i o = rw (ordered-test _ _ o)
+
+  pub taken-in-order : orderOf first second ≡ Taken → InOrder first second
+  taken-in-order e =
+      let same = order-count first second e in
+      let none = taken-none 1 (each (λ i. 15 unless ordered (recordAt first i) (recordAt second i)) (countOf first)) (sym (count-alike _ _ _ _ same) ∙ e) in
+      record {
+        count = same;
+        records = λ i l. test-ordered _ _ (passed 15 _ (omega arith) (sym (getD-each (λ i. 15 unless ordered (recordAt first i) (recordAt second i)) (countOf first) i 0 l) ∙ none i));
+      }
+
+  pub in-order-taken : InOrder first second → orderOf first second ≡ Taken
+  in-order-taken o = count-alike _ _ _ _ (o .count) ∙ none-taken 1 _ (countOf first) (λ i l. no-fault i (o .records i l))
+
+  -- the first record that is not in order
+  pub first-unordered : countOf first ≡ countOf second → (i : ℕ) → i < countOf first → OrderedBefore first second i →
+      ¬ (Ordered (recordAt first i) (recordAt second i)) →
+      orderOf first second ≡ refusal 15 (i + 1)
+  first-unordered same i l before n =
+      count-alike _ _ _ _ same ∙
+      fault-at (λ k. 15 unless ordered (recordAt first k) (recordAt second k)) 1 i (countOf first) 15 l (none-taken 1 _ i (λ k b. no-fault k (before k b))) (at-fault i n) (omega arith)

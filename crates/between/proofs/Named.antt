@@ -1,0 +1,112 @@
+-- A refusal names its fault, and a fault its refusal: the tests in their order come to the plain words.
+-- Assumes nothing.
+use Prim.Native.Nat.{ℕ, _+_, _-_, _*_, _≤_, _<_}
+use mathlib.Core.Path.{_≡_, refl, sym, ap, _∙_}
+use mathlib.Core.List.{List}
+use mathlib.Core.Logic.{_⊎_, inl, inr, ⊎-elim}
+use native.Mathlib.Decide.{ℕ-discrete, decLe}
+use native.Mathlib.Omega.{arith}
+use borrow.Author.Tests.{ne-eqb, lt-leb, le-leb}
+use Rattle.member.specs.declared.record.Vehicle.{Vehicle}
+use Rattle.files.specs.Allowed.{AllowedSurveyFile}
+use Rattle.files.specs.Reading.{_unless_, firstFault}
+use Rattle.files.specs.Refused.{SurveyRefusal}
+use Rattle.files.specs.SurveyFile.{countOf, recordAt, readSurvey}
+use Rattle.files.specs.Words.{each}
+use Rattle.files.specs.declared.Reading.the-variants.{Taken, Refused}
+use Rattle.files.specs.declared.Refusal.{Refusal}
+use Rattle.files.proofs.Each.{length-each, getD-each}
+use Rattle.files.proofs.Faults.{refusal, reading-case, FaultAt, refused-at}
+use Rattle.files.proofs.Surveys.{taken-allowed, allowed-taken, refused-named, named-refused}
+use Rattle.files.proofs.Tests.{passed}
+use Rattle.between.specs.Order.{ordered, Ordered, OrderedBefore, InOrder, orderOf}
+use Rattle.between.specs.Between.{firstRefusal, betweenTests}
+use Rattle.between.specs.Fault.{BothAllowed, BetweenFault, no-vehicle, first-refused, second-refused, other-count, not-ordered, short-list}
+use Rattle.between.proofs.Orders.{count-differs, count-alike, test-ordered, no-fault, taken-in-order, in-order-taken, first-unordered}
+use Rattle.between.proofs.Pairs.{Passed}
+
+-- a survey file is allowed, or refused by its own refusal
+pub either-file : (bytes : List ℕ) → AllowedSurveyFile bytes ⊎ ((r : Refusal) × SurveyRefusal bytes r)
+either-file bytes =
+    reading-case (readSurvey bytes .answer) (λ a. AllowedSurveyFile bytes ⊎ ((r : Refusal) × SurveyRefusal bytes r)) (λ e. inl (taken-allowed bytes e))
+    (λ r e. inr (r, refused-named bytes r e))
+
+module _ (v : Vehicle) (first second : List ℕ) (room : ℕ) where
+  -- a fault in plain words is the refusal
+  pub fault-refused : (n p : ℕ) → BetweenFault v first second room n p → firstRefusal (betweenTests v first second room) ≡ refusal n p
+  fault-refused n p (no-vehicle e) = rw e
+  fault-refused n p (first-refused h r f) = rw (ne-eqb (v .axles) 0 (omega arith), named-refused first r f)
+  fault-refused n p (second-refused h a r f) = rw (ne-eqb (v .axles) 0 (omega arith), allowed-taken first a, named-refused second r f)
+  fault-refused n p (other-count b d) =
+      rw (ne-eqb (v .axles) 0 (omega (arith, b .vehicle)), allowed-taken first (b .allowed), allowed-taken second (b .allowed'), count-differs _ _ (recordAt first) (recordAt second) d)
+  fault-refused n p (not-ordered b same i l before o) =
+      rw (ne-eqb (v .axles) 0 (omega (arith, b .vehicle)), allowed-taken first (b .allowed), allowed-taken second (b .allowed'), first-unordered first second same i l before o)
+  fault-refused n p (short-list b o s) =
+      rw (ne-eqb (v .axles) 0 (omega (arith, b .vehicle)), allowed-taken first (b .allowed), allowed-taken second (b .allowed'), in-order-taken first second o, lt-leb _ _ s)
+
+  -- what passes every test, in plain words
+  pub record Good : Type 0 where
+    pub allowed : BothAllowed v first second
+    pub order : InOrder first second
+    pub room-enough : 2 * countOf first ≤ room
+
+  pub passed-good : Passed v first second room → Good
+  passed-good p =
+      record {
+        allowed = record { vehicle = p .vehicle; allowed = taken-allowed first (p .taken); allowed' = taken-allowed second (p .taken') };
+        order = taken-in-order first second (p .order);
+        room-enough = p .room-enough;
+      }
+
+  pub good-passed : Good → Passed v first second room
+  good-passed g =
+      record {
+        vehicle = g .allowed .vehicle;
+        taken = allowed-taken first (g .allowed .allowed);
+        taken' = allowed-taken second (g .allowed .allowed');
+        order = in-order-taken first second (g .order);
+        room-enough = g .room-enough;
+      }
+
+  abbrev Outcome : Type 0
+  Outcome = Passed v first second room ⊎ ((n p : ℕ) × BetweenFault v first second room n p)
+
+  -- the first record that is not in order
+  unordered : BothAllowed v first second → countOf first ≡ countOf second → (r : Refusal) → orderOf first second ≡ Refused r → Outcome
+  unordered b same r e =
+      let fault : ℕ → ℕ = λ k. 15 unless ordered (recordAt first k) (recordAt second k) in
+      let at = refused-at 1 (each fault (countOf first)) r (sym (count-alike _ _ _ _ same) ∙ e) in
+      let i : ℕ = r .place - 1 in
+      let inside : i < countOf first = omega (arith, at .below, at .from, length-each fault (countOf first)) in
+      inr (
+        15,
+        i + 1,
+        not-ordered b same i inside
+            (λ k l. test-ordered _ _ (passed 15 _ (omega arith) (sym (getD-each fault (countOf first) k 0 (omega arith)) ∙ at .first k l)))
+            (λ o. at .fault (sym (sym (no-fault first second i o) ∙ sym (getD-each fault (countOf first) i 0 inside) ∙ at .number))),
+      )
+
+  -- every call passes all tests or has a fault
+  pub passed-or-fault : Outcome
+  passed-or-fault =
+      elim (ℕ-discrete (v .axles) 0) [
+        | yes e ↦ inr (12, 0, no-vehicle e)
+        | no h ↦
+            ⊎-elim (λ a. ⊎-elim (λ a'. compared (record { vehicle = omega arith; allowed = a; allowed' = a' })) (λ (r, f). inr (r .number, r .place, second-refused (omega arith) a r f)) (either-file second))
+            (λ (r, f). inr (r .number, r .place, first-refused (omega arith) r f))
+            (either-file first)
+      ]
+    where
+      roomy : (b : BothAllowed v first second) → orderOf first second ≡ Taken → Outcome
+      roomy b e =
+          elim (decLe (2 * countOf first) room) [
+            | yes l ↦ inl (good-passed (record { allowed = b; order = taken-in-order first second e; room-enough = l }))
+            | no s ↦ inr (14, 0, short-list b (taken-in-order first second e) (omega arith))
+          ]
+
+      compared : BothAllowed v first second → Outcome
+      compared b =
+          elim (ℕ-discrete (countOf first) (countOf second)) [
+            | yes same ↦ reading-case (orderOf first second) (λ a. Outcome) (roomy b) (unordered b same)
+            | no d ↦ inr (15, 0, other-count b d)
+          ]
