@@ -1,11 +1,12 @@
 -- What is written into the lent list, two entries a member.
 -- Assumes nothing.
 use Prim.Native.Nat.{ℕ, zero, suc, _+_, _-_, _*_, _≤_, _<_}
-use mathlib.Core.Path.{_≡_, refl, ap, _∙_}
+use mathlib.Core.Path.{_≡_, refl, ap, sym, _∙_}
 use mathlib.Core.List.{List, [], _∷_, _++_}
+use native.Mathlib.Decide.{decLt}
 use native.Mathlib.Omega.{arith}
-use lib.ListN.{length, drop, getD, set, length-append, length-drop}
-use lib.Seq.{getD-take}
+use lib.ListN.{length, drop, getD, set, length-append, length-drop, List·getD-append}
+use lib.Seq.{getD-take, getD-append-add, getD-drop}
 use Rattle.member.specs.declared.record.Survey.{Survey}
 use Rattle.member.specs.declared.record.Vehicle.{Vehicle}
 use Rattle.rating.specs.Judgement.{permittedFor, ratingOf, written}
@@ -27,6 +28,43 @@ module _ (lowest highest : ℕ → ℕ) where
   pub bounds-length : (n : ℕ) (list : List ℕ) → 2 * n ≤ length list → length (boundsWritten lowest highest n list) ≡ length list
   unfolding boundsWritten
   bounds-length n list h = simp (length-append, length-drop) (omega (arith, in-turn-length n))
+
+  -- entry by entry
+  in-turn-at : (n i : ℕ) → i < n → (getD (inTurn lowest highest n) (2 * i) 0 ≡ lowest i) × (getD (inTurn lowest highest n) (2 * i + 1) 0 ≡ highest i)
+  in-turn-at zero i l = absurd (omega arith)
+  in-turn-at (suc n) i l = go (decLt i n) (in-turn-at n i)
+    where
+      go : Dec (i < n) → (i < n → (getD (inTurn lowest highest n) (2 * i) 0 ≡ lowest i) × (getD (inTurn lowest highest n) (2 * i + 1) 0 ≡ highest i)) →
+          (getD (inTurn lowest highest (suc n)) (2 * i) 0 ≡ lowest i) × (getD (inTurn lowest highest (suc n)) (2 * i + 1) 0 ≡ highest i)
+      go (yes k) at =
+          let more : (j : ℕ) → j < 2 * n → getD (inTurn lowest highest (suc n)) j 0 ≡ getD (inTurn lowest highest n) j 0 =
+          λ j h. List·getD-append (inTurn lowest highest n) (lowest n ∷ highest n ∷ []) 0 j (omega (arith, in-turn-length n)) in
+          (more (2 * i) (omega arith) ∙ at k .0, more (2 * i + 1) (omega arith) ∙ at k .1)
+      go (no k) at =
+          let e : i ≡ n = omega arith in
+          let low : 2 * n ≡ length (inTurn lowest highest n) + 0 = omega (arith, in-turn-length n) in
+          let high : 2 * n + 1 ≡ length (inTurn lowest highest n) + 1 = omega (arith, in-turn-length n) in (
+            rw (e, low) (getD-append-add (inTurn lowest highest n) (lowest n ∷ highest n ∷ []) 0 0),
+            rw (e, high) (getD-append-add (inTurn lowest highest n) (lowest n ∷ highest n ∷ []) 1 0),
+          )
+
+  module _ (n : ℕ) (list : List ℕ) where
+    pub bounds-at : (i : ℕ) → i < n → (getD (boundsWritten lowest highest n list) (2 * i) 0 ≡ lowest i) × (getD (boundsWritten lowest highest n list) (2 * i + 1) 0 ≡ highest i)
+    unfolding boundsWritten
+    bounds-at i l =
+        let in-turn : (j : ℕ) → j < 2 * n → getD (inTurn lowest highest n ++ drop (2 * n) list) j 0 ≡ getD (inTurn lowest highest n) j 0 =
+        λ j h. List·getD-append (inTurn lowest highest n) (drop (2 * n) list) 0 j (omega (arith, in-turn-length n)) in
+        (in-turn (2 * i) (omega arith) ∙ in-turn-at n i l .0, in-turn (2 * i + 1) (omega arith) ∙ in-turn-at n i l .1)
+
+    pub bounds-beyond : (i : ℕ) → 2 * n ≤ i → getD (boundsWritten lowest highest n list) i 0 ≡ getD list i 0
+    unfolding boundsWritten
+    bounds-beyond i h =
+        let at : i ≡ 2 * n + (i - 2 * n) = omega arith in
+        let past : 2 * n + (i - 2 * n) ≡ length (inTurn lowest highest n) + (i - 2 * n) = omega (arith, in-turn-length n) in
+        ap (λ k. getD (inTurn lowest highest n ++ drop (2 * n) list) k 0) (at ∙ past) ∙
+        getD-append-add (inTurn lowest highest n) (drop (2 * n) list) (i - 2 * n) 0 ∙
+        getD-drop (2 * n) list (i - 2 * n) 0 ∙
+        ap (λ k. getD list k 0) (sym at)
 
   -- two entries more
   pub bounds-next : (list : List ℕ) (i : ℕ) → 2 * i + 2 ≤ length list →

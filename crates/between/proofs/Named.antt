@@ -6,6 +6,7 @@ use mathlib.Core.List.{List}
 use mathlib.Core.Logic.{_⊎_, inl, inr, ⊎-elim}
 use native.Mathlib.Decide.{ℕ-discrete, decLe}
 use native.Mathlib.Omega.{arith}
+use lib.ListN.{length}
 use borrow.Author.Tests.{ne-eqb, lt-leb, le-leb}
 use Rattle.member.specs.declared.record.Vehicle.{Vehicle}
 use Rattle.files.specs.Allowed.{AllowedSurveyFile}
@@ -20,10 +21,11 @@ use Rattle.files.proofs.Faults.{refusal, reading-case, FaultAt, refused-at}
 use Rattle.files.proofs.Surveys.{taken-allowed, allowed-taken, refused-named, named-refused}
 use Rattle.files.proofs.Tests.{passed}
 use Rattle.between.specs.Order.{ordered, Ordered, OrderedBefore, InOrder, orderOf}
-use Rattle.between.specs.Between.{firstRefusal, betweenTests}
+use Rattle.between.specs.Between.{firstRefusal, betweenTests, betweenList}
 use Rattle.between.specs.Fault.{BothAllowed, BetweenFault, no-vehicle, first-refused, second-refused, other-count, not-ordered, short-list}
 use Rattle.between.proofs.Orders.{count-differs, count-alike, test-ordered, no-fault, taken-in-order, in-order-taken, first-unordered}
-use Rattle.between.proofs.Pairs.{Passed}
+use Rattle.between.proofs.Lists.{bounds-length}
+use Rattle.between.proofs.Pairs.{Passed, passed-all}
 
 -- a survey file is allowed, or refused by its own refusal
 pub either-file : (bytes : List ℕ) → AllowedSurveyFile bytes ⊎ ((r : Refusal) × SurveyRefusal bytes r)
@@ -110,3 +112,11 @@ module _ (v : Vehicle) (first second : List ℕ) (room : ℕ) where
             | yes same ↦ reading-case (orderOf first second) (λ a. Outcome) (roomy b) (unordered b same)
             | no d ↦ inr (15, 0, other-count b d)
           ]
+
+-- the list keeps its length
+pub between-length : (v : Vehicle) (first second list : List ℕ) → length (betweenList v first second list) ≡ length list
+unfolding betweenList
+between-length v first second list =
+    ⊎-elim (λ p. rw (passed-all v first second (length list) p) (bounds-length _ _ (countOf first) list (p .room-enough)))
+    (λ (n, p, f). rw (fault-refused v first second (length list) n p f))
+    (passed-or-fault v first second (length list))

@@ -16,7 +16,7 @@ use Rattle.member.specs.declared.record.Vehicle.{Vehicle}
 use Rattle.rating.specs.Judgement.{permittedFor, judgementOf}
 use Rattle.rating.specs.Surveyed.{AllowedSurvey, memberAt, membersOf}
 use Rattle.files.specs.Reading.{_unless_}
-use Rattle.files.specs.SurveyFile.{countOf, recordAt, recordsOf, readSurvey}
+use Rattle.files.specs.SurveyFile.{countOf, recordAt, recordsOf, surveyOf, readSurvey}
 use Rattle.files.specs.declared.Reading.{Reading}
 use Rattle.files.specs.declared.Reading.the-variants.{Taken, Refused}
 use Rattle.files.specs.declared.Refusal.{Refusal}
@@ -39,8 +39,11 @@ module _ (bytes : List ℕ) where
   pub read-count : readSurvey bytes .answer ≡ Taken → readSurvey bytes .survey .count ≡ countOf bytes
   read-count e = rw (taken-survey bytes e)
 
+  pub survey-members : membersOf (surveyOf bytes) ≡ recordsOf bytes
+  survey-members = take-at (recordsOf bytes) _ (countOf bytes) (length-each (recordAt bytes) (countOf bytes))
+
   pub read-members : readSurvey bytes .answer ≡ Taken → membersOf (readSurvey bytes .survey) ≡ recordsOf bytes
-  read-members e = rw (taken-survey bytes e) (take-at (recordsOf bytes) _ (countOf bytes) (length-each (recordAt bytes) (countOf bytes)))
+  read-members e = rw (taken-survey bytes e) survey-members
 
   -- a refused one has no members
   pub read-few : readSurvey bytes .survey .count ≤ MOST-MEMBERS
@@ -106,7 +109,7 @@ pub record Passed (v : Vehicle) (first second : List ℕ) (room : ℕ) : Type 0 
   pub order : orderOf first second ≡ Taken
   pub room-enough : 2 * countOf first ≤ room
 
-not-none : (n : ℕ) → not (eqb n 0) ≡ true → 0 < n
+pub not-none : (n : ℕ) → not (eqb n 0) ≡ true → 0 < n
 not-none n h = go (eqb n 0) refl h
   where
     go : (t : Bool) → eqb n 0 ≡ t → not t ≡ true → 0 < n

@@ -8,7 +8,6 @@ use mathlib.Core.Logic.{_⊎_, inl, inr, ⊎-elim}
 use native.Mathlib.Omega.{arith}
 use lib.Dec.{eqb, leb}
 use lib.ListN.{length}
-use lib.Seq.{take-at}
 use borrow.Author.Tests.{ne-eqb, eqb-false, lt-leb}
 use Rattle.section.specs.Choose.{choose}
 use Rattle.rating.specs.Compare.{SamePlaces, Heavier}
@@ -34,12 +33,14 @@ use Rattle.files.specs.Refused.{SurveyRefusal, VehicleRefusal}
 use Rattle.files.specs.Reading.{_unless_, isIn}
 use Rattle.files.specs.SurveyFile.{countOf, recordAt, recordsOf, readSurvey, surveyOf}
 use Rattle.files.specs.VehicleFile.{readVehicle, vehicleOf}
-use Rattle.files.specs.Words.{each}
 use Rattle.files.proofs.Each.{length-each, getD-each}
 use Rattle.files.specs.declared.Refusal.{Refusal}
 use Rattle.files.proofs.Tests.{first-is, rows-is, in-range, refutes}
+use Rattle.files.proofs.Faults.{reading-case}
 use Rattle.files.proofs.Surveys as surveys
 use Rattle.files.proofs.Vehicles as vehicles
+use Rattle.between.specs.Fault.{no-vehicle}
+use Rattle.between.proofs.Pairs.{taken-survey-allowed, survey-members}
 use Rattle.session.specs.Answers.{Outcome, Values, RefusedAt, refusedBy, judgementValues}
 use Rattle.session.specs.Calls.{newSession, members, stateFault, rateFault, judgeFault, loadSurvey, loadVehicle, storedSurvey, storedVehicle, unlessFault, rate, judge, judgeList, loadFiles, thenJudge, judgeFiles}
 use Rattle.session.specs.Demands.{Demand1, Demand2, Demand3}
@@ -48,8 +49,9 @@ use Rattle.session.specs.History.{Holds, after}
 use Rattle.session.specs.YardCall.{no-survey}
 use Rattle.session.specs.declared.Session.{Session}
 use Rattle.session.proofs.History.{survey-stays, vehicle-stays, survey-last, last-held, in-turn, in-reverse, calls-valid}
-use Rattle.session.proofs.Loads.{never-both, reading-case, survey-read, vehicle-read, survey-load, vehicle-load, survey-refused, vehicle-refused, other-survey}
-use Rattle.session.proofs.State.{taken-survey-allowed, valid-new, judge-ready, all-answers}
+use Rattle.session.proofs.Loads.{never-both, survey-read, vehicle-read, survey-load, vehicle-load, survey-refused, vehicle-refused, other-survey}
+use Rattle.session.proofs.State.{valid-new, judge-ready, all-answers}
+use Rattle.session.proofs.ReadingsLaws.{between-answered, between-taken, between-bounds}
 use Rattle.session.proofs.YardLaws.{yard-answered, yard-taken}
 
 -- a fault is an answer from the state, or there is none
@@ -145,6 +147,9 @@ demand1 =
       yard-no-survey = λ calls h yard list.
           yard-answered (after newSession calls) (calls-valid newSession calls valid-new) yard list .named 11 0 (no-survey (rw (survey-stays newSession calls h)));
       yard-answered = yard-answered;
+      between-no-vehicle = λ calls h first second list.
+          between-answered (after newSession calls) first second list .named 12 0 (no-vehicle (rw (vehicle-stays newSession calls h)));
+      between-answered = between-answered;
     }
 
 files-answer : (survey vehicle : List ℕ) → AllowedSurveyFile survey → AllowedVehicleFile vehicle →
@@ -179,6 +184,7 @@ demand2 =
           };
       files-judged = files-answer;
       yard-judged = yard-taken;
+      between-judged = between-taken;
     }
 
 -- both loads of two files: where they are taken the survey is allowed, and is what the session then holds
@@ -218,7 +224,7 @@ module _ {s : Session} {survey vehicle : List ℕ} (h : Holds s survey vehicle) 
       let f = vehicle-read newSession vehicle (h .vehicle-taken) in
       let is : s .survey ≡ surveyOf survey = h .survey-held ∙ ap (λ (o : Outcome). o .session .survey) (survey-load newSession survey e) in
       let same : s .vehicle ≡ vehicleOf vehicle = h .vehicle-held ∙ ap (λ (o : Outcome). o .session .vehicle) (vehicle-load newSession vehicle f) in
-      (rw is (take-at (each (recordAt survey) (countOf survey)) _ (countOf survey) (length-each (recordAt survey) (countOf survey))), rw is, same)
+      (rw is (survey-members survey), rw is, same)
 
 -- the greatest is what some position gives, so a load less than one unit above it is less than one unit above that position's
 covered : {m : Member} (a : AllowedMember m) (v : Vehicle) → Covers m v (vehicleLoadOn m v)
@@ -296,4 +302,5 @@ demand3 =
           let f = held-files h in
           let f' = held-files h' in
           falls (after s calls) (after s' calls') survey vehicle survey' vehicle' h h' (rw (f .0, f' .0) p) (rw (f .2, f' .2) v);
+      between = between-bounds;
     }

@@ -7,32 +7,36 @@ use mathlib.Core.List.{List, [], _∷_}
 use Rattle.files.specs.SurveyFile.{readSurvey}
 use Rattle.files.specs.VehicleFile.{readVehicle}
 use Rattle.files.specs.Allowed.{AllowedSurveyFile, AllowedVehicleFile}
+use Rattle.files.proofs.Faults.{reading-case}
 use Rattle.files.proofs.Surveys as surveys
 use Rattle.files.proofs.Vehicles as vehicles
 use Rattle.session.specs.Answers.{Outcome, Values}
 use Rattle.session.specs.Calls.{Valid, newSession, loadSurvey, loadVehicle, storedSurvey, storedVehicle, rate, judge}
-use Rattle.session.specs.History.{Call, LoadSurvey, LoadVehicle, Rate, Judge, JudgeYard, next, after, TakesSurvey, TakesVehicle, NoneTakes, LastTakes, here, further, TakenLast, Holds}
+use Rattle.session.specs.History.{Call, LoadSurvey, LoadVehicle, Rate, Judge, JudgeYard, JudgeBetween, next, after, TakesSurvey, TakesVehicle, NoneTakes, LastTakes, here, further, TakenLast, Holds}
+use Rattle.session.specs.Readings.{judgeBetween}
 use Rattle.session.specs.Yard.{judgeYard}
 use Rattle.session.specs.declared.Session.{Session}
-use Rattle.session.proofs.Loads.{reading-case, survey-read, vehicle-read, survey-load, vehicle-load, survey-left, vehicle-left, other-survey, other-vehicle}
+use Rattle.session.proofs.Loads.{survey-read, vehicle-read, survey-load, vehicle-load, survey-left, vehicle-left, other-survey, other-vehicle}
 use Rattle.session.proofs.State.{valid-survey, valid-vehicle}
 
 -- a call that takes no survey leaves the survey, and so with the vehicle
 survey-next : (s : Session) (c : Call) → ¬ (TakesSurvey s c) → next s c .survey ≡ s .survey
-unfolding rate judge judgeYard
+unfolding rate judge judgeYard judgeBetween
 survey-next s (LoadSurvey bytes) h = survey-left s bytes h
 survey-next s (LoadVehicle bytes) h = other-survey s bytes
 survey-next s (Rate place) h = refl
 survey-next s (Judge list) h = refl
 survey-next s (JudgeYard yard list) h = refl
+survey-next s (JudgeBetween first second list) h = refl
 
 vehicle-next : (s : Session) (c : Call) → ¬ (TakesVehicle s c) → next s c .vehicle ≡ s .vehicle
-unfolding rate judge judgeYard
+unfolding rate judge judgeYard judgeBetween
 vehicle-next s (LoadSurvey bytes) h = other-vehicle s bytes
 vehicle-next s (LoadVehicle bytes) h = vehicle-left s bytes h
 vehicle-next s (Rate place) h = refl
 vehicle-next s (Judge list) h = refl
 vehicle-next s (JudgeYard yard list) h = refl
+vehicle-next s (JudgeBetween first second list) h = refl
 
 pub survey-stays : (s : Session) (calls : List Call) → NoneTakes TakesSurvey s calls → after s calls .survey ≡ s .survey
 survey-stays s [] h = refl
@@ -95,7 +99,7 @@ module _ {survey vehicle : List ℕ} (a : AllowedSurveyFile survey) (b : Allowed
 
 -- every call hands back a valid session
 next-valid : (s : Session) (c : Call) → Valid s → Valid (next s c)
-unfolding loadSurvey loadVehicle rate judge judgeYard
+unfolding loadSurvey loadVehicle rate judge judgeYard judgeBetween
 next-valid s (LoadSurvey bytes) h =
     reading-case (readSurvey bytes .answer) (λ a. Valid (storedSurvey s a (readSurvey bytes .survey) .session)) (λ e. valid-survey s bytes h e) (λ r e. h)
 next-valid s (LoadVehicle bytes) h =
@@ -103,6 +107,7 @@ next-valid s (LoadVehicle bytes) h =
 next-valid s (Rate place) h = h
 next-valid s (Judge list) h = h
 next-valid s (JudgeYard yard list) h = h
+next-valid s (JudgeBetween first second list) h = h
 
 pub calls-valid : (s : Session) (calls : List Call) → Valid s → Valid (after s calls)
 calls-valid s [] h = h

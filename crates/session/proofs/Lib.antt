@@ -6,3 +6,4 @@ pub mod YardRuns
 pub mod YardTests
 pub mod YardWritten
 pub mod YardLaws
+pub mod ReadingsLaws

@@ -2,7 +2,7 @@
 -- Assumes nothing.
 use Prim.Native.Nat.{ℕ, _+_, _*_, _≤_, _<_}
 use mathlib.Core.Path.{_≡_, refl}
-use mathlib.Core.Bool.{Bool, true, false, not}
+use mathlib.Core.Bool.{not}
 use mathlib.Core.List.{List, [], _∷_}
 use native.Mathlib.Decide.{decLe}
 use native.Mathlib.Nat.{add-sub-cancel}
@@ -10,9 +10,8 @@ use native.Mathlib.Omega.{arith}
 use Rattle.member.specs.Fields.{MOST-MEMBERS}
 use lib.Dec.{eqb, leb}
 use lib.ListN.{length, replicate}
-use borrow.Author.Tests.{ne-eqb, eqb-false, le-leb, leb-true}
+use borrow.Author.Tests.{ne-eqb, le-leb, leb-true}
 use Rattle.member.specs.Format.{In, _‥_}
-use Rattle.rating.specs.Surveyed.{AllowedSurvey}
 use Rattle.files.specs.Reading.{_unless_, isIn}
 use Rattle.files.specs.SurveyFile.{readSurvey}
 use Rattle.files.specs.VehicleFile.{readVehicle}
@@ -21,21 +20,14 @@ use Rattle.files.specs.declared.Refusal.{Refusal}
 use Rattle.files.specs.declared.SurveyRead.{SurveyRead}
 use Rattle.files.specs.declared.VehicleRead.{VehicleRead}
 use Rattle.files.proofs.Tests.{none, passed, in-range, range-in}
-use Rattle.files.proofs.Surveys.{taken-count, taken-members}
 use Rattle.files.proofs.Vehicles.{taken-vehicle-allowed}
+use Rattle.between.proofs.Pairs.{not-none, taken-survey-allowed}
 use Rattle.session.specs.Answers.{loaded, judged, judgeAnswer, refusedBy}
 use Rattle.session.specs.Calls.{Valid, newSession, stateFault, rateFault, judgeFault, loadSurvey, loadVehicle, rate, judge, judgeList, loadFiles, thenJudge}
 use Rattle.session.specs.Parts.{Answers}
 use Rattle.session.specs.declared.AfterJudge.{AfterJudge}
 use Rattle.session.specs.declared.AfterLoad.{AfterLoad}
 use Rattle.session.specs.declared.Session.{Session}
-
-pub not-none : (n : ℕ) → not (eqb n 0) ≡ true → 0 < n
-not-none n h = go (eqb n 0) refl h
-  where
-    go : (t : Bool) → eqb n 0 ≡ t → not t ≡ true → 0 < n
-    go true e h = absurd (mathlib.Core.Bool.false≢true h)
-    go false e h = omega (arith, eqb-false n 0 e)
 
 -- a survey and a vehicle are loaded
 pub record Ready (members axles : ℕ) : Type 0 where
@@ -69,9 +61,6 @@ judge-clear members axles entries e =
 -- a session that is new, and one with a file that was taken, is valid
 pub valid-new : Valid newSession
 valid-new = record { survey = λ h. absurd (omega arith); vehicle = λ h. absurd (omega arith) }
-
-pub taken-survey-allowed : (bytes : List ℕ) → readSurvey bytes .answer ≡ Taken → AllowedSurvey (readSurvey bytes .survey)
-taken-survey-allowed bytes e = record { count = taken-count bytes e; members = λ i h. taken-members bytes e i _ h }
 
 pub valid-survey : (s : Session) (bytes : List ℕ) → Valid s → readSurvey bytes .answer ≡ Taken → Valid (record { survey = readSurvey bytes .survey; vehicle = s .vehicle })
 valid-survey s bytes h e = record { survey = λ l. taken-survey-allowed bytes e; vehicle = h .vehicle }

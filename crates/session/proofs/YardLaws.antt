@@ -19,6 +19,7 @@ use Rattle.files.specs.VehicleFile.{readVehicle, vehicleOf}
 use Rattle.files.specs.YardFile.{MOST-VEHICLES, AllowedYard, vehiclesOf, vehicleFiles, filesIn, leftAfter, leftOver, joined}
 use Rattle.files.specs.declared.Refusal.{Refusal}
 use Rattle.files.proofs.Tests.{in-range, range-in, refutes}
+use Rattle.files.proofs.Faults.{reading-case}
 use Rattle.files.proofs.Vehicles as vehicles
 use Rattle.files.proofs.Yards.{AllowedTo, length-files, files-joined, joined-files, joined-left}
 use Rattle.session.specs.Answers.{Answer, Outcome, Values, RefusedAt, refusedBy, valuesOf, judgementValues}
@@ -26,7 +27,7 @@ use Rattle.session.specs.Calls.{Valid, members, loadVehicle, judge, then
 use Rattle.session.specs.Yard.{Entry, alone, vehicleAnswers, yardEntries, passing, firstRefusal, frontTests, yardAnswered, judgeYard, yardList}
 use Rattle.session.specs.YardCall.{fileAt, GoodBefore, Counted, YardFault, no-survey, no-count, wrong-count, faulty-vehicle, bytes-left, short-list, Passing, YardAnswered, YardFigures, YardTaken}
 use Rattle.session.specs.declared.Session.{Session}
-use Rattle.session.proofs.Loads.{never-both, reading-case, vehicle-load, vehicle-refused}
+use Rattle.session.proofs.Loads.{never-both, vehicle-load, vehicle-refused}
 use Rattle.session.proofs.State.{all-answers, few-members}
 use Rattle.session.proofs.YardTests as tests
 

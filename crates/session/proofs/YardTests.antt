@@ -23,7 +23,7 @@ use Rattle.session.specs.YardRun.{Ran, Answered, refusedYard}
 use Rattle.session.specs.declared.Session.{Session}
 use Rattle.session.specs.declared.yard.Run.{Run}
 use Rattle.session.specs.declared.yard.YardJudged.the-variants.{Passes}
-use Rattle.session.proofs.State.{not-none}
+use Rattle.between.proofs.Pairs.{not-none}
 use Rattle.session.proofs.YardRuns.{first-append, first-none, first-some}
 
 -- a row of tests is the first fault that it has

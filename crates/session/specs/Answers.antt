@@ -8,9 +8,15 @@ use Rattle.rating.specs.declared.judging.Judgement.{Judgement}
 use Rattle.rating.specs.declared.judging.Rating.{Rating}
 use Rattle.rating.specs.declared.judging.Verdict.{Verdict}
 use Rattle.rating.specs.declared.judging.Verdict.the-variants.{Pass, Refuse}
+use Rattle.between.specs.declared.Between.{Between}
+use Rattle.between.specs.declared.Between.the-variants.{All, None, Undecided}
+use Rattle.between.specs.declared.BetweenJudged.{BetweenJudged}
+use Rattle.between.specs.declared.BetweenJudged.the-variants.{Verdict as Given}
+use Rattle.between.specs.declared.BetweenJudged.the-variants.{Refused as NotBetween}
 use Rattle.session.specs.declared.AfterJudge.{AfterJudge}
 use Rattle.session.specs.declared.AfterLoad.{AfterLoad}
 use Rattle.session.specs.declared.AfterRate.{AfterRate}
+use Rattle.session.specs.declared.readings.AfterBetween.{AfterBetween}
 use Rattle.session.specs.declared.yard.AfterYard.{AfterYard}
 use Rattle.session.specs.declared.Judged.{Judged}
 use Rattle.session.specs.declared.Judged.the-variants.{Figures}
@@ -75,6 +81,16 @@ abbrev pub yardAnswer : YardJudged → Answer
 yardAnswer (Passes n) = Values (n ∷ [])
 yardAnswer (NotYard r) = refusedBy r
 
+-- document 02, request 5/13: "passes for all between, for none, or undecided"; the numbers of all and none are those of pass and refuse
+abbrev pub betweenNumber : Between → ℕ
+betweenNumber All = 1
+betweenNumber None = 0
+betweenNumber Undecided = 2
+
+abbrev pub betweenAnswer : BetweenJudged → Answer
+betweenAnswer (Given b) = Values (betweenNumber b ∷ [])
+betweenAnswer (NotBetween r) = refusedBy r
+
 -- what a call leaves and answers
 pub record Outcome : Type 0 where
   pub session : Session
@@ -91,3 +107,6 @@ judged r = record { session = r .session; answer = judgeAnswer (r .answer) }
 
 abbrev pub yardJudged : AfterYard → Outcome
 yardJudged r = record { session = r .session; answer = yardAnswer (r .answer) }
+
+abbrev pub betweenJudged : AfterBetween → Outcome
+betweenJudged r = record { session = r .session; answer = betweenAnswer (r .answer) }

@@ -1,4 +1,5 @@
--- The four calls. Document 01, 'Calls': "Load a survey, load a vehicle, rate one place, judge." `Yard` has the fifth.
+-- The four calls. Document 01, 'Calls': "Load a survey, load a vehicle, rate one place, judge." `Yard` and `Readings`
+-- have two more.
 use Prim.Native.Nat.{ℕ, _-_, _*_, _<_}
 use mathlib.Core.Bool.{Bool, not}
 use mathlib.Core.List.{List, [], _∷_}

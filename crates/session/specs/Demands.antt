@@ -1,5 +1,5 @@
 -- The three demands, each a record whose parts stand under the sentence that they state. proofs/Demands.antt proves each of them, of
--- the calls' definitions (Calls, Yard); the contracts of `Session` tie the code to those.
+-- the calls' definitions (Calls, Yard, Readings); the contracts of `Session` tie the code to those.
 use Prim.Native.Nat.{ℕ, _<_}
 use mathlib.Core.Path.{_≡_}
 use mathlib.Core.List.{List, [], _∷_}
@@ -18,10 +18,13 @@ use Rattle.files.specs.Refused.{SurveyRefusal, VehicleRefusal}
 use Rattle.files.specs.SurveyFile.{recordsOf, surveyOf}
 use Rattle.files.specs.VehicleFile.{vehicleOf}
 use Rattle.files.specs.declared.Refusal.{Refusal}
+use Rattle.between.specs.declared.Between.{Between}
 use Rattle.session.specs.Answers.{Values, RefusedAt, refusedBy, judgementValues}
 use Rattle.session.specs.Calls.{Valid, newSession, members, loadSurvey, loadVehicle, rate, judge, judgeList, judgeFiles}
 use Rattle.session.specs.History.{Call, LoadSurvey, LoadVehicle, after, TakesSurvey, TakesVehicle, NoneTakes, LastTakes, TakenLast, Holds}
 use Rattle.session.specs.Parts.{FromState, RefusedBoth, Answers, FilesAnswered, Governs, Covers, Falls, permittedAt, vehicleLoadAt, judgementIn}
+use Rattle.session.specs.Readings.{judgeBetween}
+use Rattle.session.specs.ReadingsCall.{Gives, BetweenAnswered, BetweenTaken, BetweenBounds}
 use Rattle.session.specs.Yard.{Entry, judgeYard}
 use Rattle.session.specs.YardCall.{YardAnswered, YardTaken}
 use Rattle.session.specs.declared.Session.{Session}
@@ -60,6 +63,10 @@ pub record Demand1 : Type 0 where
   pub yard-no-survey : (calls : List Call) → NoneTakes TakesSurvey newSession calls → (yard : List ℕ) (list : List Entry) →
       judgeYard (after newSession calls) yard list .answer ≡ RefusedAt 11 0
   pub yard-answered : (s : Session) → Valid s → (yard : List ℕ) (list : List Entry) → YardAnswered s yard list
+  -- and of the call on two readings, request 5/13
+  pub between-no-vehicle : (calls : List Call) → NoneTakes TakesVehicle newSession calls → (first second list : List ℕ) →
+      judgeBetween (after newSession calls) first second list .answer ≡ RefusedAt 12 0
+  pub between-answered : (s : Session) (first second list : List ℕ) → BetweenAnswered s first second list
 
 -- Demand 2.
 pub record Demand2 : Type 0 where
@@ -79,6 +86,8 @@ pub record Demand2 : Type 0 where
       judgeFiles survey vehicle .answer ≡ Values (judgementValues (judgementIn (record { survey = surveyOf survey; vehicle = vehicleOf vehicle })))
   -- and of the yard, document 02, request 3/13: "Every answer is that of loading that vehicle alone and judging."
   pub yard-judged : (s : Session) → Valid s → (yard : List ℕ) (list : List Entry) → YardTaken s yard list
+  -- and of two readings, request 5/13: the bounds and the verdict are those of the two surveys, each loaded
+  pub between-judged : (s : Session) (first second list : List ℕ) → BetweenTaken s first second list
 
 -- Demand 3.
 pub record Demand3 : Type 0 where
@@ -117,3 +126,5 @@ pub record Demand3 : Type 0 where
       SamePlaces (recordsOf survey) (recordsOf survey') →
       Heavier (vehicleOf vehicle) (vehicleOf vehicle') →
       Falls (after s calls) (after s' calls')
+  -- document 02, request 5/13: "Every survey between the two, field by field, must have its figures within those bounds"
+  pub between : (s : Session) (first second list : List ℕ) (b : Between) → Gives s first second list b → BetweenBounds s first second list b

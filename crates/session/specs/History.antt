@@ -4,16 +4,18 @@ use mathlib.Core.Path.{_≡_}
 use mathlib.Core.List.{List, [], _∷_}
 use Rattle.session.specs.Answers.{Values}
 use Rattle.session.specs.Calls.{newSession, loadSurvey, loadVehicle, rate, judge}
+use Rattle.session.specs.Readings.{judgeBetween}
 use Rattle.session.specs.Yard.{Entry, judgeYard}
 use Rattle.session.specs.declared.Session.{Session}
 
--- "Load a survey, load a vehicle, rate one place, judge.", and document 02, request 3/13
+-- "Load a survey, load a vehicle, rate one place, judge.", and document 02, requests 3/13 and 5/13
 pub data Call : Type 0 where
   LoadSurvey : (bytes : List ℕ) → Call
   LoadVehicle : (bytes : List ℕ) → Call
   Rate : (place : ℕ) → Call
   Judge : (list : List ℕ) → Call
   JudgeYard : (yard : List ℕ) (list : List Entry) → Call
+  JudgeBetween : (first second list : List ℕ) → Call
 
 -- the session that a call hands back
 abbrev pub next : Session → Call → Session
@@ -22,6 +24,7 @@ next s (LoadVehicle bytes) = loadVehicle s bytes .session
 next s (Rate place) = rate s place .session
 next s (Judge list) = judge s list .session
 next s (JudgeYard yard list) = judgeYard s yard list .session
+next s (JudgeBetween first second list) = judgeBetween s first second list .session
 
 -- the session after a row of calls, each made in the session that the one before it handed back
 abbrev pub after : Session → List Call → Session
@@ -35,6 +38,7 @@ TakesSurvey s (LoadVehicle bytes) = ⊥
 TakesSurvey s (Rate place) = ⊥
 TakesSurvey s (Judge list) = ⊥
 TakesSurvey s (JudgeYard yard list) = ⊥
+TakesSurvey s (JudgeBetween first second list) = ⊥
 
 -- in this session the call takes a vehicle
 abbrev pub TakesVehicle : Session → Call → Type 0
@@ -43,6 +47,7 @@ TakesVehicle s (LoadVehicle bytes) = loadVehicle s bytes .answer ≡ Values []
 TakesVehicle s (Rate place) = ⊥
 TakesVehicle s (Judge list) = ⊥
 TakesVehicle s (JudgeYard yard list) = ⊥
+TakesVehicle s (JudgeBetween first second list) = ⊥
 
 module _ (Takes : Session → Call → Type 0) where
   -- no call of the row takes one

@@ -3,6 +3,8 @@ pub mod Calls
 pub mod Yard
 pub mod YardRun
 pub mod YardCall
+pub mod Readings
 pub mod History
 pub mod Parts
+pub mod ReadingsCall
 pub mod Demands
