@@ -1,5 +1,5 @@
-//! The survey record: sixteen words, and for each kind and section which of them are used and
-//! within which limits. What is used by neither is 0.
+//! The survey record: sixteen words, and for each kind and section which of them are used, within
+//! which limits, and which of them wear. What is used by neither is 0.
 
 use crate::crescent;
 
@@ -127,4 +127,25 @@ pub fn used(kind: u16, code: u16) -> impl Iterator<Item = &'static Limit> {
 pub fn used_words(kind: u16, code: u16) -> u16 {
     let species = u16::from(has_species(kind)) << SPECIES;
     used(kind, code).fold(1 << KIND | 1 << SECTION | species, |all, limit| all | 1 << limit.0)
+}
+
+/// Rot, that of a deck included.
+pub fn is_rot(words: &Words, word: usize) -> bool {
+    match words[SECTION] {
+        _ if words[KIND] == CLOSE_STRINGER && word == DECK_ROT => true,
+        1 | 5 => word == S2,
+        2 => word == S3 || word == S4,
+        3 => word == S5,
+        _ => false,
+    }
+}
+
+/// Numbers that grow as a member wears: rot, lost area and dead load.
+pub fn wears(words: &Words, word: usize) -> bool {
+    let lost_area = match words[SECTION] {
+        2 => word == S6,
+        4 => word == S2,
+        _ => false,
+    };
+    lost_area || word == DEAD_LOAD || is_rot(words, word)
 }

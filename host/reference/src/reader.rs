@@ -105,7 +105,8 @@ fn record_fault(w: &Words) -> Option<u64> {
     None
 }
 
-fn member(w: &Words) -> Member {
+/// A record by the document's letters.
+pub fn member(w: &Words) -> Member {
     Member {
         kind: w[KIND],
         species: w[SPECIES],
@@ -121,19 +122,24 @@ fn member(w: &Words) -> Member {
     }
 }
 
-/// A survey file's members.
-pub fn survey(bytes: &[u8]) -> Result<Vec<Member>, Refused> {
+/// A survey file's records as they stand.
+pub fn records(bytes: &[u8]) -> Result<Vec<Words>, Refused> {
     let refused = |number, place| Refused { file: File::Survey, number, place };
     let count = header(bytes, b"TBR", SURVEY_HEADER, 64, 32).map_err(|n| refused(n, 0))?;
-    let mut members = Vec::with_capacity(count);
+    let mut records = Vec::with_capacity(count);
     for (record, place) in bytes[SURVEY_HEADER..].chunks_exact(32).zip(1..) {
         let words: Words = std::array::from_fn(|i| word(record, 2 * i));
         if let Some(number) = record_fault(&words) {
             return Err(refused(number, place));
         }
-        members.push(member(&words));
+        records.push(words);
     }
-    Ok(members)
+    Ok(records)
+}
+
+/// A survey file's members.
+pub fn survey(bytes: &[u8]) -> Result<Vec<Member>, Refused> {
+    Ok(records(bytes)?.iter().map(member).collect())
 }
 
 /// A vehicle file's class, track and axles.

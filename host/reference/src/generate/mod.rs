@@ -15,7 +15,7 @@ pub use corners::corners;
 pub use damage::{any_bytes, some_damage};
 pub use places::{damaged_surveys, damaged_vehicles, Damaged};
 pub use random::Random;
-pub use survey::{full_survey, is_rot, survey, survey_bytes, Spread};
+pub use survey::{full_survey, survey, survey_bytes, Spread};
 pub use vehicle::{vehicle, vehicle_bytes, AxleWords, VehicleWords};
 pub use worse::{worse_survey, worse_vehicle, Wear};
 pub use yard::{damaged_yards, joined, some_yard_damage, yard, yard_bytes, DamagedYard};

@@ -13,27 +13,6 @@ pub enum Spread {
     Usual,
 }
 
-/// Rot, that of a deck included.
-pub fn is_rot(words: &Words, word: usize) -> bool {
-    match words[SECTION] {
-        _ if words[KIND] == CLOSE_STRINGER && word == DECK_ROT => true,
-        1 | 5 => word == S2,
-        2 => word == S3 || word == S4,
-        3 => word == S5,
-        _ => false,
-    }
-}
-
-/// Numbers that grow as a member wears: rot, lost area and dead load.
-pub(super) fn wears(words: &Words, word: usize) -> bool {
-    let lost_area = match words[SECTION] {
-        2 => word == S6,
-        4 => word == S2,
-        _ => false,
-    };
-    lost_area || word == DEAD_LOAD || is_rot(words, word)
-}
-
 /// The depth of a crescent: often where its row begins or ends, where all rows end, or beyond.
 fn depth(random: &mut Random, diameter: u16) -> u16 {
     let last = last_depth(diameter);

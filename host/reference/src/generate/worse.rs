@@ -1,9 +1,9 @@
 //! The second file of a pair as demand 3 has it: deeper rot, more lost area, more dead load,
 //! heavier axles, members and axles added; all else the same.
 
-use super::survey::{is_rot, survey, wears};
+use super::survey::survey;
 use super::{vehicle, Random, Spread, VehicleWords};
-use crate::layout::{used, Words, CLOSE_STRINGER, KIND, SECTION};
+use crate::layout::{is_rot, used, wears, Words, CLOSE_STRINGER, KIND, SECTION};
 
 /// A number that stays, grows by 1 or grows as far as its range goes.
 fn grown(random: &mut Random, value: u16, greatest: u16) -> u16 {
