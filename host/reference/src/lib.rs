@@ -1,10 +1,11 @@
-//! Document 01 and requests 1 to 3 of document 02 in plain Rust, written from the documents alone,
+//! Document 01 and requests 1 to 5 of document 02 in plain Rust, written from the documents alone,
 //! and a generator of files.
 //!
 //! The proved library is tested against it. It tries every position of the vehicle, counts in
 //! fractions of 128 bits and is in no hurry; [`twin`] is the same judgement made fast, for the
 //! benchmark.
 
+pub mod between;
 pub mod crescent;
 pub mod fraction;
 pub mod generate;
@@ -20,6 +21,7 @@ pub mod spread;
 pub mod twin;
 pub mod yard;
 
+pub use between::{between, Between, Bounds, Passing};
 pub use judge::{judge, Judged, Rated};
 pub use reader::{Axle, File, Member, Refused, Vehicle};
 pub use yard::{yard, Answer, Yard};

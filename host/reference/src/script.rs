@@ -1,6 +1,7 @@
 //! A script of calls on a session for the program `cases`, with the answers by the documents.
 
-use crate::{judge, reader, yard, Answer, Judged, Member, Rated, Refused, Vehicle};
+use crate::{between, judge, reader, yard};
+use crate::{Answer, Judged, Member, Passing, Rated, Refused, Vehicle};
 use std::fmt::Write;
 
 /// The program takes scripts that are shorter than this.
@@ -8,6 +9,9 @@ pub const SPACE: usize = 262_144;
 
 /// The most entries of a list that the program lends for a yard.
 const MOST_ANSWERS: usize = 40;
+
+/// The most entries of a list of numbers that it lends.
+const MOST_ENTRIES: usize = 160;
 
 /// Entry i of a lent list holds KNOWN + i.
 const KNOWN: u64 = 1_000_000;
@@ -40,11 +44,33 @@ fn taken<T>(read: &Result<T, Refused>) -> String {
     }
 }
 
+/// A number of two bytes, as it stands in a step.
+fn number(value: usize) -> [u8; 2] {
+    u16::try_from(value).expect("a number of two bytes").to_le_bytes()
+}
+
+/// What a list of so many numbers holds when it is lent.
+fn known_list(entries: usize) -> Vec<u64> {
+    (KNOWN..).take(entries).collect()
+}
+
+/// Writes from the front of the list; entries beyond are kept.
+fn fill<T>(list: &mut [T], written: impl IntoIterator<Item = T>) {
+    list.iter_mut().zip(written).for_each(|(entry, value)| *entry = value);
+}
+
+fn passing(passing: Passing) -> &'static str {
+    match passing {
+        Passing::All => "all",
+        Passing::None => "none",
+        Passing::Undecided => "undecided",
+    }
+}
+
 impl Script {
-    fn step(&mut self, letter: u8, number: usize, body: &[u8]) {
-        let number = u16::try_from(number).expect("a number of two bytes");
+    fn step(&mut self, letter: u8, with: usize, body: &[u8]) {
         self.bytes.push(letter);
-        self.bytes.extend(number.to_le_bytes());
+        self.bytes.extend(number(with));
         self.bytes.extend(body);
     }
 
@@ -118,40 +144,43 @@ impl Script {
     /// Judges with a list of so many entries; the whole list is printed as it is then.
     pub fn judge(&mut self, entries: usize) {
         self.step(b'J', entries, &[]);
-        let mut list: Vec<u64> = (KNOWN..).take(entries).collect();
+        let mut list = known_list(entries);
         let answer = match self.judged(entries) {
             Ok(judged) => {
-                let loads =
-                    judged.members.iter().flat_map(|rated| [rated.permitted, rated.vehicle]);
-                list.iter_mut().zip(loads).for_each(|(entry, load)| *entry = load);
+                let loads = judged.members.iter();
+                fill(&mut list, loads.flat_map(|rated| [rated.permitted, rated.vehicle]));
                 let (figure, governing) = (judged.figure, judged.governing);
                 format!("{figure} {governing} {}", verdict(judged.passes))
             }
             Err(number) => refused(number, 0),
         };
         self.print(&format!("judge {answer}"));
+        self.print_list(&list);
+    }
+
+    fn print_list(&mut self, list: &[u64]) {
         let list: String = list.iter().map(|entry| format!(" {entry}")).collect();
         self.print(&format!("list{list}"));
     }
 
     /// The list filled with a yard's answers, and the number of passes.
-    fn fill(&self, bytes: &[u8], list: &mut [Answer]) -> Result<u64, Refused> {
+    fn fill_yard(&self, bytes: &[u8], list: &mut [Answer]) -> Result<u64, Refused> {
         let members = self.survey.as_ref().map(|(_, members)| &members[..]);
         let judged = yard(members, bytes, list.len())?;
-        list.iter_mut().zip(judged.answers).for_each(|(entry, answer)| *entry = answer);
+        fill(list, judged.answers);
         Ok(judged.passes)
     }
 
     /// Judges a yard with a list of so many answers; the whole list is printed as it is then.
     pub fn yard(&mut self, bytes: &[u8], entries: usize) {
-        let lent = u16::try_from(entries).expect("a number of two bytes").to_le_bytes();
-        self.step(b'Y', lent.len() + bytes.len(), &[&lent, bytes].concat());
+        let body = [&number(entries), bytes].concat();
+        self.step(b'Y', body.len(), &body);
         if entries > MOST_ANSWERS {
             return self.print("no list is so long");
         }
         let known = |known| Answer { figure: known, governing: known, passes: false };
         let mut list: Vec<Answer> = (KNOWN..).take(entries).map(known).collect();
-        let answer = match self.fill(bytes, &mut list) {
+        let answer = match self.fill_yard(bytes, &mut list) {
             Ok(passes) => passes.to_string(),
             Err(fault) => refused(fault.number, fault.place),
         };
@@ -159,6 +188,32 @@ impl Script {
         let entry = |a: &Answer| format!(" {} {} {}", a.figure, a.governing, verdict(a.passes));
         let list: String = list.iter().map(entry).collect();
         self.print(&format!("list{list}"));
+    }
+
+    /// The list filled with the bounds of the members of two surveys, and the verdict.
+    fn fill_between(&self, surveys: [&[u8]; 2], list: &mut [u64]) -> Result<Passing, Refused> {
+        let vehicle = self.vehicle.as_ref().map(|(_, vehicle)| vehicle);
+        let answer = between(vehicle, surveys[0], surveys[1], list.len())?;
+        let bounds = answer.members.iter();
+        fill(list, bounds.flat_map(|bounds| [bounds.lowest, bounds.highest]));
+        Ok(answer.passing)
+    }
+
+    /// Takes two surveys of one bridge, with a list of so many entries; the whole list is printed
+    /// as it is then.
+    pub fn between(&mut self, first: &[u8], second: &[u8], entries: usize) {
+        let body = [&number(entries), &number(first.len()), first, second].concat();
+        self.step(b'B', body.len(), &body);
+        if entries > MOST_ENTRIES {
+            return self.print("no list is so long");
+        }
+        let mut list = known_list(entries);
+        let answer = match self.fill_between([first, second], &mut list) {
+            Ok(verdict) => passing(verdict).to_string(),
+            Err(fault) => refused(fault.number, fault.place),
+        };
+        self.print(&format!("between {answer}"));
+        self.print_list(&list);
     }
 
     /// Rates every place of a survey of so many members, and judges with a list that just holds it.
