@@ -1,8 +1,10 @@
 //! A deterministic generator of files: the same seed gives the same files on every machine.
 
+mod between;
 mod brink;
 mod corners;
 mod damage;
+mod disorder;
 mod places;
 mod random;
 mod survey;
@@ -10,9 +12,13 @@ mod vehicle;
 mod worse;
 mod yard;
 
+pub use between::{
+    damaged_pairs, some_entries, some_pair_damage, survey_between, vehicle_near, worn, DamagedPair,
+};
 pub use brink::at_the_limit;
 pub use corners::corners;
 pub use damage::{any_bytes, some_damage};
+pub use disorder::{disorder, Disorder};
 pub use places::{damaged_surveys, damaged_vehicles, Damaged};
 pub use random::Random;
 pub use survey::{full_survey, survey, survey_bytes, Spread};

@@ -55,7 +55,7 @@ fn number(random: &mut Random, spread: Spread, words: &Words, limit: Limit) -> u
 }
 
 /// A member of this kind.
-fn member(random: &mut Random, spread: Spread, kind: u16) -> Words {
+pub(super) fn member(random: &mut Random, spread: Spread, kind: u16) -> Words {
     let mut words: Words = [0; 16];
     words[KIND] = kind;
     words[SECTION] = *random.pick(sections(kind));

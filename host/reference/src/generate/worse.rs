@@ -25,7 +25,7 @@ pub enum Wear {
 }
 
 /// Does this number of a shared member grow?
-fn grows(wear: Wear, words: &Words, word: usize) -> bool {
+pub(super) fn grows(wear: Wear, words: &Words, word: usize) -> bool {
     let keeps_rot = wear == Wear::SameSpread && words[KIND] == CLOSE_STRINGER;
     wears(words, word) && !(keeps_rot && is_rot(words, word))
 }

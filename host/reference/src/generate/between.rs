@@ -1,0 +1,200 @@
+//! Two surveys of one bridge, the second worn as much or more, surveys between them, vehicles that
+//! one end just bears; and pairs that are refused, for every reason.
+
+use super::brink::brink;
+use super::damage::{damage_survey, spoil, SurveyDamage};
+use super::disorder::{disorder, Disorder};
+use super::worse::grows;
+use super::{
+    full_survey, survey, survey_bytes, vehicle, worse_survey, Random, Spread, VehicleWords, Wear,
+};
+use crate::layout::{used, Limit, Words, CLOSE_STRINGER, KIND, SECTION};
+use crate::reader;
+
+/// One number a record grown by up to 3, as a drill finds rot "between two and four".
+fn little_worn(random: &mut Random, first: &[Words]) -> Vec<Words> {
+    let mut worn = first.to_vec();
+    for words in &mut worn {
+        let grows = |limit: &&Limit| grows(Wear::SameSpread, words, limit.0);
+        let limits: Vec<Limit> = used(words[KIND], words[SECTION]).filter(grows).copied().collect();
+        let &(word, _, greatest) = random.pick(&limits);
+        words[word] = (words[word] + random.between(0, 3)).min(greatest);
+    }
+    worn
+}
+
+/// The second survey of the bridge: the same, worn a little, or worn up to any degree. Of a closely
+/// spaced stringer only the dead load grows.
+pub fn worn(random: &mut Random, first: &[Words]) -> Vec<Words> {
+    match random.below(8) {
+        0 => first.to_vec(),
+        1..=3 => worse_survey(random, first, Wear::SameSpread, 0),
+        _ => little_worn(random, first),
+    }
+}
+
+/// A survey between the two, field by field, often with a field of one end.
+pub fn survey_between(random: &mut Random, first: &[Words], second: &[Words]) -> Vec<Words> {
+    let ends = first.iter().zip(second);
+    ends.map(|(one, other)| std::array::from_fn(|word| random.edgy(one[word], other[word])))
+        .collect()
+}
+
+/// A vehicle of up to four axles: as heavy as the first survey or the second just bears, or 1 kgf
+/// heavier; any vehicle now and then, and where there is none such.
+pub fn vehicle_near(random: &mut Random, first: &[Words], second: &[Words]) -> VehicleWords {
+    let axles = 1 + random.below(4);
+    let any = vehicle(random, Spread::Usual, axles);
+    let end = match random.below(5) {
+        0 => return any,
+        1 | 2 => first,
+        _ => second,
+    };
+    let members: Vec<_> = end.iter().map(reader::member).collect();
+    match brink(random, &members, &any) {
+        Some([passing, heavier]) => [passing, heavier][random.below(2)].clone(),
+        None => any,
+    }
+}
+
+/// Entries of a list for so many members: mostly enough, often just too few or more.
+pub fn some_entries(random: &mut Random, members: usize) -> usize {
+    let enough = 2 * members;
+    let any = random.below(161);
+    *random.pick(&[enough, enough, enough, enough, enough - 1, enough + 1, 160, any])
+}
+
+/// Two files with one thing wrong, or with more of what is looked at later, and the number and
+/// place that they must be refused with.
+pub struct DamagedPair {
+    pub first: Vec<u8>,
+    pub second: Vec<u8>,
+    pub number: u64,
+    pub place: u64,
+}
+
+/// The files of two surveys and their refusal.
+fn pair([first, second]: &[Vec<Words>; 2], number: u64, place: u64) -> DamagedPair {
+    DamagedPair { first: survey_bytes(first), second: survey_bytes(second), number, place }
+}
+
+/// Not in order at this record, each way that it can be; often all behind it are not either.
+fn disordered(random: &mut Random, sound: &[Vec<Words>; 2], i: usize) -> Vec<DamagedPair> {
+    let mut all = Vec::new();
+    for way in Disorder::ALL {
+        let [mut first, mut second] = sound.clone();
+        if !disorder(random, &mut first[i], &mut second[i], way) {
+            continue;
+        }
+        if random.once_in(2) {
+            for behind in i + 1..first.len() {
+                let way = *random.pick(&Disorder::ALL);
+                disorder(random, &mut first[behind], &mut second[behind], way);
+            }
+        }
+        all.push(pair(&[first, second], 15, i as u64 + 1));
+    }
+    all
+}
+
+/// A record of one end that no survey has, in each way. What comes later is often wrong too: the
+/// second survey, where it is the first that is refused, the order of the first records, the count.
+fn refused(random: &mut Random, sound: &[Vec<Words>; 2], i: usize) -> Vec<DamagedPair> {
+    let mut all = Vec::new();
+    for end in [0, 1] {
+        for damage in SurveyDamage::ALL {
+            let mut ends = sound.clone();
+            if !damage_survey(random, &mut ends[end][i], damage) {
+                continue;
+            }
+            match random.below(4) {
+                0 if i > 0 => ends[1][0] = ends[1][i - 1],
+                1 if end == 0 => ends[1][random.below(i + 1)][KIND] = 0,
+                2 => ends[1 - end].truncate(1 + i),
+                _ => {}
+            }
+            all.push(pair(&ends, damage.number(), i as u64 + 1));
+        }
+    }
+    all
+}
+
+/// Different counts, whatever the records.
+fn counted(random: &mut Random, sound: &[Vec<Words>; 2], i: usize) -> Vec<DamagedPair> {
+    let mut all = Vec::new();
+    for end in [0, 1] {
+        let mut ends = sound.clone();
+        ends[end].truncate(i);
+        if random.once_in(2) {
+            let [first, second] = &mut ends;
+            disorder(random, &mut first[0], &mut second[0], Disorder::Sounder);
+        }
+        all.push(pair(&ends, 15, 0));
+    }
+    all
+}
+
+/// Two surveys of 64 members, refused in each way at each place.
+pub fn damaged_pairs(random: &mut Random) -> Vec<DamagedPair> {
+    let first = full_survey(random, Spread::Wide);
+    let second = worse_survey(random, &first, Wear::SameSpread, 0);
+    let sound = [first, second];
+    let mut all = Vec::new();
+    for i in 0..sound[0].len() {
+        all.extend(disordered(random, &sound, i));
+        all.extend(refused(random, &sound, i));
+        if i > 0 {
+            all.extend(counted(random, &sound, i));
+        }
+    }
+    all
+}
+
+/// One more record or one less at an end, and records of either end that no survey has.
+fn damage(random: &mut Random, ends: &mut [Vec<Words>; 2]) {
+    let end = random.below(2);
+    match random.below(3) {
+        0 => ends[end].extend(survey(random, Spread::Usual, 1)),
+        1 => ends[end].truncate(ends[end].len() - 1),
+        _ => {}
+    }
+    for _ in 0..random.below(3) {
+        let records = &mut ends[random.below(2)];
+        if !records.is_empty() {
+            let (i, damage) = (random.below(records.len()), *random.pick(&SurveyDamage::ALL));
+            damage_survey(random, &mut records[i], damage);
+        }
+    }
+}
+
+/// Any way; often more rot, where that is one.
+fn some_way(random: &mut Random, first: &Words) -> Disorder {
+    match first[KIND] {
+        CLOSE_STRINGER if random.once_in(2) => Disorder::CloseRot,
+        _ => *random.pick(&Disorder::ALL),
+    }
+}
+
+/// Two surveys of one bridge of up to so many members, then out of order, with records that no
+/// survey has, or with other bytes. Some of them are sound still.
+pub fn some_pair_damage(random: &mut Random, most: usize) -> [Vec<u8>; 2] {
+    let count = 1 + random.below(most);
+    let mut first = survey(random, Spread::Wide, count);
+    let mut second = worn(random, &first);
+    for (one, other) in first.iter_mut().zip(&mut second) {
+        if random.once_in(count + 1) {
+            let way = some_way(random, one);
+            disorder(random, one, other, way);
+        }
+    }
+    let mut ends = [first, second];
+    if random.once_in(3) {
+        damage(random, &mut ends);
+    }
+    let mut files = ends.map(|records| survey_bytes(&records));
+    if random.once_in(6) {
+        let end = random.below(2);
+        spoil(random, &mut files[end]);
+    }
+    files
+}
