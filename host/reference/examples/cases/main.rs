@@ -2,6 +2,7 @@
 //!
 //!     cargo run --release -p reference --example cases -- ../crates/cases
 
+mod between;
 mod close_stringers;
 mod crescents;
 mod document;
@@ -26,6 +27,7 @@ fn script() -> Script {
     crescents::cases(&mut script);
     close_stringers::cases(&mut script);
     yard::cases(&mut script);
+    between::cases(&mut script);
     script
 }
 
