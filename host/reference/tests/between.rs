@@ -1,36 +1,13 @@
 //! Rot between two readings: figures by hand, every survey between two of one bridge, what is not
-//! of one bridge, the order of refusals, and the wrong readings that the cases tell from the right
-//! one.
+//! of one bridge, and the order of refusals.
+
+mod two_surveys;
 
 use reference::generate::*;
 use reference::layout::*;
-use reference::{between, judge, reader, Between, Passing, Refused, Vehicle};
+use reference::{between, judge, reader, Between, Passing, Vehicle};
 use std::collections::BTreeMap;
-
-/// Two survey files, the loaded vehicle and the list's entries.
-struct Call {
-    vehicle: Option<Vehicle>,
-    first: Vec<u8>,
-    second: Vec<u8>,
-    entries: usize,
-}
-
-/// The verdict and each member's lowest and highest permitted load, or number and place of the
-/// refusal.
-type Said = Result<(Passing, Vec<(u64, u64)>), (u64, u64)>;
-
-fn said(call: &Call) -> Said {
-    match between(call.vehicle.as_ref(), &call.first, &call.second, call.entries) {
-        Ok(Between { passing, members }) => {
-            Ok((passing, members.iter().map(|bounds| (bounds.lowest, bounds.highest)).collect()))
-        }
-        Err(Refused { number, place, .. }) => Err((number, place)),
-    }
-}
-
-fn read(vehicle: &VehicleWords) -> Vehicle {
-    reader::vehicle(&vehicle_bytes(vehicle)).expect("a sound vehicle")
-}
+use two_surveys::*;
 
 /// Class 0, track 190, one axle.
 fn one_axle(weight: u16) -> Vehicle {
@@ -129,9 +106,11 @@ fn every_survey_between_is_within_the_bounds() {
     let (mut verdicts, mut inside, mut turned) = ([0; 3], 0, [0; 2]);
     for round in 0..1500 {
         let what = format!("seed {SEED:#x}, round {round}");
-        let spread = if round % 4 == 0 { Spread::Wide } else { Spread::Usual };
         let count = 1 + random.below(4);
-        let first = survey(&mut random, spread, count);
+        let first = match round % 4 {
+            0 => survey(&mut random, Spread::Wide, count),
+            _ => bearing_survey(&mut random, count),
+        };
         let second = worn(&mut random, &first);
         let vehicle = vehicle_near(&mut random, &first, &second);
         let [one, other] = [&first, &second].map(|records| survey_bytes(records));
@@ -367,23 +346,6 @@ fn records_out_of_order() {
     assert!(met.values().all(|&times| times > 10), "{met:?}");
 }
 
-/// A call as the tests of the program make it: two surveys of one bridge, often near the brink; or
-/// damaged in any way.
-fn some_call(random: &mut Random) -> Call {
-    let spread = if random.once_in(3) { Spread::Wide } else { Spread::Usual };
-    let count = 1 + random.below(3);
-    let first = survey(random, spread, count);
-    let second = worn(random, &first);
-    let vehicle = read(&vehicle_near(random, &first, &second));
-    let files = match random.below(2) {
-        0 => [survey_bytes(&first), survey_bytes(&second)],
-        _ => some_pair_damage(random, count),
-    };
-    let [first, second] = files;
-    let vehicle = Some(vehicle).filter(|_| !random.once_in(12));
-    Call { vehicle, first, second, entries: some_entries(random, count) }
-}
-
 /// The damaged pairs have every number.
 #[test]
 fn some_damage_of_every_sort() {
@@ -398,146 +360,5 @@ fn some_damage_of_every_sort() {
     }
     for number in [0, 1, 2, 3, 4, 5, 6, 7, 8, 14, 15] {
         assert!(seen.get(&number).is_some_and(|&times| times > 100), "{number}: {seen:?}");
-    }
-}
-
-/// What the request could be taken for, and is not.
-#[derive(Clone, Copy, Debug, PartialEq, Eq)]
-enum Wrong {
-    LowestAndHighestExchanged,
-    UndecidedWhenBothRefuse,
-    VerdictOfTheFirstEnd,
-    VerdictOfTheSecondEnd,
-    OrderOfDeadLoadOnly,
-    OrderOfRotOnly,
-    GreaterAndNotAsGreat,
-    CloseRotFree,
-    DeckRotFree,
-    CodeFree,
-    VehicleLast,
-    SecondBeforeFirst,
-    OrderBeforeSecond,
-    ListBeforeOrder,
-    OneEntryAMember,
-    CountAtPlaceOne,
-}
-
-const WRONG: [Wrong; 16] = [
-    Wrong::LowestAndHighestExchanged,
-    Wrong::UndecidedWhenBothRefuse,
-    Wrong::VerdictOfTheFirstEnd,
-    Wrong::VerdictOfTheSecondEnd,
-    Wrong::OrderOfDeadLoadOnly,
-    Wrong::OrderOfRotOnly,
-    Wrong::GreaterAndNotAsGreat,
-    Wrong::CloseRotFree,
-    Wrong::DeckRotFree,
-    Wrong::CodeFree,
-    Wrong::VehicleLast,
-    Wrong::SecondBeforeFirst,
-    Wrong::OrderBeforeSecond,
-    Wrong::ListBeforeOrder,
-    Wrong::OneEntryAMember,
-    Wrong::CountAtPlaceOne,
-];
-
-/// The words of a file as they stand, whether it is acceptable or not.
-fn raw(bytes: &[u8]) -> Vec<Words> {
-    let records = bytes.get(6..).unwrap_or(&[]).chunks_exact(32);
-    let word = |record: &[u8], i: usize| u16::from_le_bytes([record[2 * i], record[2 * i + 1]]);
-    records.map(|record| std::array::from_fn(|i| word(record, i))).collect()
-}
-
-/// Is this word of the second record as it should be?
-fn in_order(wrong: Option<Wrong>, first: &Words, second: &Words, word: usize) -> bool {
-    let is = |what| wrong == Some(what);
-    let close = first[KIND] == 7;
-    let wearing = wears(first, word);
-    let free = is(Wrong::CloseRotFree) || is(Wrong::DeckRotFree) && word == DECK_ROT;
-    let unseen = is(Wrong::OrderOfDeadLoadOnly) && wearing && word != DEAD_LOAD
-        || is(Wrong::OrderOfRotOnly) && wearing && !is_rot(first, word)
-        || is(Wrong::CodeFree) && word == SECTION;
-    match wearing && (!close || free || word == DEAD_LOAD) {
-        _ if unseen => true,
-        true if is(Wrong::GreaterAndNotAsGreat) => first[word] < second[word],
-        true => first[word] <= second[word],
-        false => first[word] == second[word],
-    }
-}
-
-/// Number and place of 15.
-fn out_of_order(wrong: Option<Wrong>, first: &[Words], second: &[Words]) -> Option<(u64, u64)> {
-    if first.len() != second.len() {
-        return Some((15, u64::from(wrong == Some(Wrong::CountAtPlaceOne))));
-    }
-    let ordered = |(one, other)| (0..16).all(|word| in_order(wrong, one, other, word));
-    let place = first.iter().zip(second).position(|pair| !ordered(pair))?;
-    Some((15, place as u64 + 1))
-}
-
-/// The refusal of a call, read in one wrong way or rightly.
-fn refusal(wrong: Option<Wrong>, call: &Call) -> Option<(u64, u64)> {
-    let is = |what| wrong == Some(what);
-    let own = |bytes| reader::records(bytes).err().map(|refused| (refused.number, refused.place));
-    let (first, second) = (raw(&call.first), raw(&call.second));
-    let each = if is(Wrong::OneEntryAMember) { 1 } else { 2 };
-    let mut tests = [
-        call.vehicle.is_none().then_some((12, 0)),
-        own(&call.first),
-        own(&call.second),
-        out_of_order(wrong, &first, &second),
-        (call.entries < each * first.len()).then_some((14, 0)),
-    ];
-    match wrong {
-        Some(Wrong::VehicleLast) => tests.rotate_left(1),
-        Some(Wrong::SecondBeforeFirst) => tests.swap(1, 2),
-        Some(Wrong::OrderBeforeSecond) => tests.swap(2, 3),
-        Some(Wrong::ListBeforeOrder) => tests.swap(3, 4),
-        _ => {}
-    }
-    tests.into_iter().flatten().next()
-}
-
-/// The call read in one wrong way or, without one, rightly: a second working of the request.
-fn misread(wrong: Option<Wrong>, call: &Call) -> Said {
-    if let Some(refused) = refusal(wrong, call) {
-        return Err(refused);
-    }
-    let vehicle = call.vehicle.as_ref().expect("a vehicle");
-    let [first, second] = [&call.first, &call.second].map(|bytes| {
-        reference::judge::judge_members(&reader::survey(bytes).expect("a survey"), vehicle)
-    });
-    let passing = match (first.passes, second.passes) {
-        (false, false) if wrong == Some(Wrong::UndecidedWhenBothRefuse) => Passing::Undecided,
-        (true, false) if wrong == Some(Wrong::VerdictOfTheFirstEnd) => Passing::All,
-        (true, false) if wrong == Some(Wrong::VerdictOfTheSecondEnd) => Passing::None,
-        (true, true) => Passing::All,
-        (false, false) => Passing::None,
-        _ => Passing::Undecided,
-    };
-    let bounds = first.members.iter().zip(&second.members).map(|(one, other)| match wrong {
-        Some(Wrong::LowestAndHighestExchanged) => (one.permitted, other.permitted),
-        _ => (other.permitted, one.permitted),
-    });
-    Ok((passing, bounds.collect()))
-}
-
-/// The right reading agrees with the reference on every call; each wrong one is seen.
-#[test]
-fn wrong_readings_are_seen() {
-    const SEED: u64 = 0xbe20_0007;
-    let mut random = Random::new(SEED);
-    let mut seen = [0; WRONG.len()];
-    for round in 0..4000 {
-        let call = some_call(&mut random);
-        let answer = said(&call);
-        assert_eq!(misread(None, &call), answer, "seed {SEED:#x}, round {round}");
-        for (seen, wrong) in seen.iter_mut().zip(WRONG) {
-            *seen += u32::from(misread(Some(wrong), &call) != answer);
-        }
-    }
-    println!("{seen:?}");
-    for (seen, wrong) in seen.iter().zip(WRONG) {
-        assert!(*seen > 10, "{wrong:?} is seen {seen} times");
     }
 }

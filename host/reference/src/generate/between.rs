@@ -9,7 +9,19 @@ use super::{
     full_survey, survey, survey_bytes, vehicle, worse_survey, Random, Spread, VehicleWords, Wear,
 };
 use crate::layout::{used, Limit, Words, CLOSE_STRINGER, KIND, SECTION};
-use crate::reader;
+use crate::{reader, twin, Axle, Vehicle};
+
+/// So many members that each bear something, as on a bridge in use.
+pub fn bearing_survey(random: &mut Random, count: usize) -> Vec<Words> {
+    let axles = vec![Axle { weight: 1, distance: 0 }];
+    let light = Vehicle { class: 0, track: 190, axles };
+    let bears = |words: &Words| twin::rate(&reader::member(words), &light).passes();
+    let mut members = Vec::with_capacity(count);
+    while members.len() < count {
+        members.extend(survey(random, Spread::Usual, 1).into_iter().filter(bears));
+    }
+    members
+}
 
 /// One number a record grown by up to 3, as a drill finds rot "between two and four".
 fn little_worn(random: &mut Random, first: &[Words]) -> Vec<Words> {
@@ -45,13 +57,13 @@ pub fn survey_between(random: &mut Random, first: &[Words], second: &[Words]) ->
 pub fn vehicle_near(random: &mut Random, first: &[Words], second: &[Words]) -> VehicleWords {
     let axles = 1 + random.below(4);
     let any = vehicle(random, Spread::Usual, axles);
-    let end = match random.below(5) {
+    let ends = match random.below(5) {
         0 => return any,
-        1 | 2 => first,
-        _ => second,
+        1 | 2 => [first, second],
+        _ => [second, first],
     };
-    let members: Vec<_> = end.iter().map(reader::member).collect();
-    match brink(random, &members, &any) {
+    let ends = ends.map(|end| end.iter().map(reader::member).collect::<Vec<_>>());
+    match ends.iter().find_map(|members| brink(random, members, &any)) {
         Some([passing, heavier]) => [passing, heavier][random.below(2)].clone(),
         None => any,
     }
@@ -167,10 +179,11 @@ fn damage(random: &mut Random, ends: &mut [Vec<Words>; 2]) {
     }
 }
 
-/// Any way; often more rot, where that is one.
+/// Any way; often one that few kinds have.
 fn some_way(random: &mut Random, first: &Words) -> Disorder {
     match first[KIND] {
         CLOSE_STRINGER if random.once_in(2) => Disorder::CloseRot,
+        1 | 2 if random.once_in(3) => Disorder::Section,
         _ => *random.pick(&Disorder::ALL),
     }
 }
@@ -179,7 +192,8 @@ fn some_way(random: &mut Random, first: &Words) -> Disorder {
 /// survey has, or with other bytes. Some of them are sound still.
 pub fn some_pair_damage(random: &mut Random, most: usize) -> [Vec<u8>; 2] {
     let count = 1 + random.below(most);
-    let mut first = survey(random, Spread::Wide, count);
+    let spread = *random.pick(&[Spread::Wide, Spread::Usual]);
+    let mut first = survey(random, spread, count);
     let mut second = worn(random, &first);
     for (one, other) in first.iter_mut().zip(&mut second) {
         if random.once_in(count + 1) {
@@ -192,7 +206,7 @@ pub fn some_pair_damage(random: &mut Random, most: usize) -> [Vec<u8>; 2] {
         damage(random, &mut ends);
     }
     let mut files = ends.map(|records| survey_bytes(&records));
-    if random.once_in(6) {
+    if random.once_in(4) {
         let end = random.below(2);
         spoil(random, &mut files[end]);
     }

@@ -13,7 +13,8 @@ mod worse;
 mod yard;
 
 pub use between::{
-    damaged_pairs, some_entries, some_pair_damage, survey_between, vehicle_near, worn, DamagedPair,
+    bearing_survey, damaged_pairs, some_entries, some_pair_damage, survey_between, vehicle_near,
+    worn, DamagedPair,
 };
 pub use brink::at_the_limit;
 pub use corners::corners;
