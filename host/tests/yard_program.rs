@@ -3,7 +3,8 @@
 
 mod common;
 
-use common::{programs, seed};
+use common::scripts::*;
+use common::seed;
 use reference::generate::*;
 use reference::script::{Script, SPACE};
 use std::collections::BTreeMap;
@@ -12,37 +13,6 @@ const SCRIPTS: u64 = 6;
 
 /// A round of calls is shorter than this: two files, ten yards and what is between them.
 const LONGEST_ROUND: usize = 30_000;
-
-fn spread(random: &mut Random) -> Spread {
-    if random.once_in(3) {
-        Spread::Wide
-    } else {
-        Spread::Usual
-    }
-}
-
-/// Mostly small surveys, as brute force is dear; now and then one that is refused.
-fn load_survey(random: &mut Random, script: &mut Script) {
-    let spread = spread(random);
-    let bytes = match random.below(24) {
-        0 => some_damage(random).0,
-        1 => survey_bytes(&full_survey(random, spread)),
-        _ => {
-            let members = 1 + random.below(4);
-            survey_bytes(&survey(random, spread, members))
-        }
-    };
-    script.survey(&bytes);
-}
-
-fn load_vehicle(random: &mut Random, script: &mut Script) {
-    let (spread, axles) = (spread(random), 1 + random.below(4));
-    let bytes = match random.below(6) {
-        0 => some_damage(random).1,
-        _ => vehicle_bytes(&vehicle(random, spread, axles)),
-    };
-    script.vehicle(&bytes);
-}
 
 /// A sound yard or a damaged one, with a list that holds it, just not, or much more.
 fn judge_yard(random: &mut Random, script: &mut Script) {
@@ -79,22 +49,12 @@ fn round(random: &mut Random, script: &mut Script) {
     script.judge(8);
 }
 
-/// A script that nearly fills the program's space.
-fn script(seed: u64) -> Script {
-    let (mut random, mut script) = (Random::new(seed), Script::default());
-    while script.bytes.len() + LONGEST_ROUND < SPACE {
-        let before = script.bytes.len();
-        round(&mut random, &mut script);
-        assert!(script.bytes.len() - before < LONGEST_ROUND);
-    }
-    script
-}
-
-/// How often the yards of a script were answered in each way.
-fn count(seen: &mut BTreeMap<String, u64>, script: &Script) {
-    for line in script.text.lines().filter_map(|line| line.strip_prefix("yard ")) {
-        let taken = line.parse::<u64>().map(|passes| if passes == 0 { "none" } else { "some" });
-        *seen.entry(taken.unwrap_or(line).to_string()).or_default() += 1;
+/// A yard's answer, of however many vehicles that pass.
+fn some_or_none(answer: &str) -> &str {
+    match answer.parse() {
+        Ok(0) => "none",
+        Ok(1_u64..) => "some",
+        Err(_) => answer,
     }
 }
 
@@ -103,29 +63,22 @@ fn count(seen: &mut BTreeMap<String, u64>, script: &Script) {
 fn the_scripts_have_every_answer() {
     let first = seed(0x9a4d_1001);
     let mut seen = BTreeMap::new();
-    (first..first + SCRIPTS).for_each(|seed| count(&mut seen, &script(seed)));
+    for seed in first..first + SCRIPTS {
+        count(&mut seen, &filled(seed, LONGEST_ROUND, round), "yard", some_or_none);
+    }
     println!("{seen:?}");
     assert!(seen.values().sum::<u64>() > 5000, "{seen:?}");
+    hold_often(&seen, &["none", "some"], 20);
     let refusals = ["1 at 0", "2 at 0", "3 at 0", "7 at 0", "7 at 1", "11 at 0", "14 at 0"];
     let refusals = refusals.map(|refusal| format!("refused {refusal}"));
-    for what in refusals.iter().map(String::as_str).chain(["none", "some"]) {
-        assert!(seen.get(what).copied().unwrap_or(0) >= 20, "{what} is rare: {seen:?}");
-    }
-}
-
-fn agree(script: &Script, what: &str) {
-    let printed = programs::printed("cases", &script.bytes);
-    for ((line, expected), number) in printed.lines().zip(script.text.lines()).zip(1..) {
-        assert_eq!(line, expected, "{what}, line {number}");
-    }
-    assert_eq!(printed.len(), script.text.len(), "{what}");
+    hold_often(&seen, &refusals.each_ref().map(String::as_str), 20);
 }
 
 #[test]
 fn thousands_of_yards() {
     let first = seed(0x9a4d_1001);
     for seed in first..first + SCRIPTS {
-        agree(&script(seed), &format!("TBR_SEED={seed}"));
+        agree(&filled(seed, LONGEST_ROUND, round), &format!("TBR_SEED={seed}"));
     }
 }
 

@@ -2,6 +2,7 @@
 #![allow(dead_code, unused_imports)]
 
 pub mod programs;
+pub mod scripts;
 
 use reference::{File, Judged, Rated, Refused};
 use tbr::{Judgement, MemberLoads, Refusal, Which};
