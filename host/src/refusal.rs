@@ -28,7 +28,8 @@ pub struct Refusal {
     /// The file at fault.
     pub file: Which,
     /// The number: 1 length, 2 mark or version, 3 count, 4 kind, 5 species, 6 section code,
-    /// 7 a number outside its range, 8 an unused field that is not 0.
+    /// 7 a number outside its range, 8 an unused field that is not 0; 15 the second of two surveys
+    /// that is not the first worn as much or more.
     pub number: u64,
     /// The member or axle at fault, from 1; 0 where the fault is in none of them.
     pub place: u64,
@@ -75,6 +76,13 @@ impl Refusal {
             (8, _) => {
                 "a field that the kind or the section does not use is not 0, \
                  or a beam in bending has lost area"
+            }
+            (15, Which::Survey) if self.place == 0 => {
+                "the two surveys have different counts of members"
+            }
+            (15, Which::Survey) => {
+                "the record is not the first survey's with rot, losses and dead load as great or \
+                 greater and all else equal; of a close stringer only the dead load may grow"
             }
             _ => NO_WORDS,
         }

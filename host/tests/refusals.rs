@@ -99,6 +99,22 @@ fn all_numbers_have_words_of_their_own() {
     assert_eq!(refusal.to_string(), words);
 }
 
+/// 15 is of two surveys of one bridge: of their counts, or of a record.
+#[test]
+fn two_surveys_that_are_not_of_one_bridge() {
+    let refusal = |file, place| Refusal { file, number: 15, place };
+    let words = "survey refused, number 15: the two surveys have different counts of members";
+    assert_eq!(refusal(Which::Survey, 0).to_string(), words);
+    let words = "survey refused, number 15 at member 3: the record is not the first survey's with \
+                 rot, losses and dead load as great or greater and all else equal; of a close \
+                 stringer only the dead load may grow";
+    assert_eq!(refusal(Which::Survey, 3).to_string(), words);
+    let no_words = Refusal { file: Which::Vehicle, number: 9, place: 0 }.meaning();
+    assert_eq!(refusal(Which::Vehicle, 0).meaning(), no_words, "a vehicle has no 15");
+    // No field of the record alone is at fault.
+    assert_eq!(explain(FOREST_ROAD, &refusal(Which::Survey, 3)), []);
+}
+
 /// The same files judged in several threads, in another order in each: nothing is kept from call to
 /// call, and no call disturbs another.
 #[test]
@@ -249,7 +265,7 @@ fn every_refused_record_has_a_field_at_fault() {
 #[test]
 fn refusals_of_other_bytes_name_nothing() {
     for file in [Which::Survey, Which::Vehicle] {
-        for number in [0, 1, 3, 4, 7, 8, 9, u64::MAX] {
+        for number in [0, 1, 3, 4, 7, 8, 9, 15, u64::MAX] {
             for place in [0, 1, 2, 65, u64::MAX] {
                 let refusal = Refusal { file, number, place };
                 assert_eq!(explain(&[], &refusal), []);
