@@ -54,8 +54,7 @@ pub fn count(
     name: &str,
     class: fn(&str) -> &str,
 ) {
-    let answer =
-        |line: &'_ str| Some(class(line.strip_prefix(name)?.strip_prefix(' ')?).to_string());
+    let answer = |line: &str| Some(class(line.strip_prefix(name)?.strip_prefix(' ')?).to_string());
     for answer in script.text.lines().filter_map(answer) {
         *seen.entry(answer).or_default() += 1;
     }
