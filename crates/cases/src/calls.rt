@@ -6,7 +6,7 @@ ghost use lib.ListN.{length};
 ghost use Rattle.session.specs.Calls.{Valid};
 
 // The longest list that a script can ask for.
-const MOST_ENTRIES: usize = 160;
+pub const MOST_ENTRIES: usize = 160;
 
 // Entry i of a lent list holds KNOWN + i, so that entries that were kept are seen.
 pub const KNOWN: u64 = 1000000;
@@ -52,7 +52,7 @@ pub fn rate(session: Session, place: u64) -> Session
     after.session
 }
 
-fn known_list() -> [u64; MOST_ENTRIES]
+pub fn known_list() -> [u64; MOST_ENTRIES]
     ensures { λ r. ⌜ 160 ≡ length r ⌝ }
 {
     let mut list = [0u64; MOST_ENTRIES];

@@ -2,6 +2,7 @@
 // independent reference: (cd host && cargo run --release -p reference --example cases -- ../crates/cases)
 mod calls;
 mod print;
+mod readings;
 mod script;
 mod yard;
 

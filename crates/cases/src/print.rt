@@ -1,4 +1,6 @@
 // The answers as text: a space before every field, and the document's number and place of a refusal.
+use between::Between;
+use between::BetweenJudged;
 use files::Reading;
 use files::Refusal;
 use libc::STDOUT_FILENO;
@@ -85,6 +87,21 @@ pub fn yard(answer: YardJudged) {
             text(b"\n");
         }
         YardJudged::Refused(r) => refusal(r),
+    }
+}
+
+fn verdict_between(v: Between) {
+    match v {
+        Between::All => line(b" all"),
+        Between::None => line(b" none"),
+        Between::Undecided => line(b" undecided"),
+    }
+}
+
+pub fn between(answer: BetweenJudged) {
+    match answer {
+        BetweenJudged::Verdict(v) => verdict_between(v),
+        BetweenJudged::Refused(r) => refusal(r),
     }
 }
 

@@ -3,8 +3,11 @@
 //   S n   load a survey of the n bytes that follow  V n   load a vehicle of the n bytes that follow
 //   R p   rate the place p                          J n   judge with a list of n entries
 //   Y n   judge a yard with a list: of the n bytes that follow, the first two are the list's entries, the others the yard
+//   B n   judge two surveys with a list: of the n bytes that follow, the first two are the list's entries, the next two the length of the
+//         first survey, the others the first and the second
 use crate::calls;
 use crate::print;
+use crate::readings;
 use crate::yard;
 use session::Session;
 ghost use Prim.Native.Nat.{_+_, _≤_, _<_};
@@ -52,7 +55,7 @@ fn end_of(step: Step, from: usize, script: &[u8]) -> usize
     let letter = step.letter;
     let number = step.number;
     match letter {
-        b'T' | b'S' | b'V' | b'Y' => {
+        b'T' | b'S' | b'V' | b'Y' | b'B' => {
             if number <= script.len() - from {
                 from + number
             } else {
@@ -75,6 +78,30 @@ fn run_yard(session: Session, bytes: &[u8]) -> Session
     yard::judge(session, &bytes[NUMBER..], number_at(bytes, 0))
 }
 
+// A script that is cut before the second survey has no list: its bytes are printed.
+fn run_between(session: Session, bytes: &[u8]) -> Session
+    requires { ⌜ Valid session ⌝ }
+    ensures { λ r. ⌜ Valid r ⌝ }
+{
+    let from = 2 * NUMBER;
+    if bytes.len() < from {
+        print::line(bytes);
+        return session;
+    }
+    let first = number_at(bytes, NUMBER);
+    if bytes.len() - from < first {
+        print::line(bytes);
+        return session;
+    }
+    let end = from + first;
+    readings::judge(
+        session,
+        &bytes[from..end],
+        &bytes[end..],
+        number_at(bytes, 0),
+    )
+}
+
 fn run_step(session: Session, step: Step, bytes: &[u8]) -> Session
     requires { ⌜ Valid session ⌝ }
     ensures { λ r. ⌜ Valid r ⌝ }
@@ -88,6 +115,7 @@ fn run_step(session: Session, step: Step, bytes: &[u8]) -> Session
         b'R' => calls::rate(session, number as u64),
         b'J' => calls::judge(session, number),
         b'Y' => run_yard(session, bytes),
+        b'B' => run_between(session, bytes),
         _ => {
             print::line(bytes);
             session
