@@ -82,7 +82,7 @@ impl Refusal {
             }
             (15, Which::Survey) => {
                 "the record is not the first survey's with rot, losses and dead load as great or \
-                 greater and all else equal; of a close stringer only the dead load may grow"
+                 greater and all else equal; of closely spaced stringers only the dead load may grow"
             }
             _ => NO_WORDS,
         }

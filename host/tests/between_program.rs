@@ -72,7 +72,7 @@ fn round(random: &mut Random, script: &mut Script) {
     script.judge(8);
 }
 
-/// Refusals of records at any place.
+/// The answer without a refusal's place.
 fn without_place(answer: &str) -> &str {
     answer.split(" at ").next().unwrap_or(answer)
 }

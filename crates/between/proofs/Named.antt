@@ -22,7 +22,7 @@ use Rattle.files.proofs.Surveys.{taken-allowed, allowed-taken, refused-named, n
 use Rattle.files.proofs.Tests.{passed}
 use Rattle.between.specs.Order.{ordered, Ordered, OrderedBefore, InOrder, orderOf}
 use Rattle.between.specs.Between.{firstRefusal, betweenTests, betweenList}
-use Rattle.between.specs.Fault.{BothAllowed, BetweenFault, no-vehicle, first-refused, second-refused, other-count, not-ordered, short-list}
+use Rattle.between.specs.Fault.{BothAllowed, MayBeJudged, BetweenFault, no-vehicle, first-refused, second-refused, other-count, not-ordered, short-list}
 use Rattle.between.proofs.Orders.{count-differs, count-alike, test-ordered, no-fault, taken-in-order, in-order-taken, first-unordered}
 use Rattle.between.proofs.Lists.{bounds-length}
 use Rattle.between.proofs.Pairs.{Passed, passed-all}
@@ -40,32 +40,27 @@ module _ (v : Vehicle) (first second : List ℕ) (room : ℕ) where
   fault-refused n p (first-refused h r f) = rw (ne-eqb (v .axles) 0 (omega arith), named-refused first r f)
   fault-refused n p (second-refused h a r f) = rw (ne-eqb (v .axles) 0 (omega arith), allowed-taken first a, named-refused second r f)
   fault-refused n p (other-count b d) =
-      rw (ne-eqb (v .axles) 0 (omega (arith, b .vehicle)), allowed-taken first (b .allowed), allowed-taken second (b .allowed'), count-differs _ _ (recordAt first) (recordAt second) d)
+      rw (ne-eqb (v .axles) 0 (omega (arith, b .vehicle)), allowed-taken first (b .first-allowed), allowed-taken second (b .second-allowed), count-differs _ _ (recordAt first) (recordAt second) d)
   fault-refused n p (not-ordered b same i l before o) =
-      rw (ne-eqb (v .axles) 0 (omega (arith, b .vehicle)), allowed-taken first (b .allowed), allowed-taken second (b .allowed'), first-unordered first second same i l before o)
+      rw (ne-eqb (v .axles) 0 (omega (arith, b .vehicle)), allowed-taken first (b .first-allowed), allowed-taken second (b .second-allowed), first-unordered first second same i l before o)
   fault-refused n p (short-list b o s) =
-      rw (ne-eqb (v .axles) 0 (omega (arith, b .vehicle)), allowed-taken first (b .allowed), allowed-taken second (b .allowed'), in-order-taken first second o, lt-leb _ _ s)
+      rw (ne-eqb (v .axles) 0 (omega (arith, b .vehicle)), allowed-taken first (b .first-allowed), allowed-taken second (b .second-allowed), in-order-taken first second o, lt-leb _ _ s)
 
   -- what passes every test, in plain words
-  pub record Good : Type 0 where
-    pub allowed : BothAllowed v first second
-    pub order : InOrder first second
-    pub room-enough : 2 * countOf first ≤ room
-
-  pub passed-good : Passed v first second room → Good
+  pub passed-good : Passed v first second room → MayBeJudged v first second room
   passed-good p =
       record {
-        allowed = record { vehicle = p .vehicle; allowed = taken-allowed first (p .taken); allowed' = taken-allowed second (p .taken') };
+        allowed = record { vehicle = p .vehicle; first-allowed = taken-allowed first (p .first-taken); second-allowed = taken-allowed second (p .second-taken) };
         order = taken-in-order first second (p .order);
         room-enough = p .room-enough;
       }
 
-  pub good-passed : Good → Passed v first second room
+  pub good-passed : MayBeJudged v first second room → Passed v first second room
   good-passed g =
       record {
         vehicle = g .allowed .vehicle;
-        taken = allowed-taken first (g .allowed .allowed);
-        taken' = allowed-taken second (g .allowed .allowed');
+        first-taken = allowed-taken first (g .allowed .first-allowed);
+        second-taken = allowed-taken second (g .allowed .second-allowed);
         order = in-order-taken first second (g .order);
         room-enough = g .room-enough;
       }
@@ -94,7 +89,7 @@ module _ (v : Vehicle) (first second : List ℕ) (room : ℕ) where
       elim (ℕ-discrete (v .axles) 0) [
         | yes e ↦ inr (12, 0, no-vehicle e)
         | no h ↦
-            ⊎-elim (λ a. ⊎-elim (λ a'. compared (record { vehicle = omega arith; allowed = a; allowed' = a' })) (λ (r, f). inr (r .number, r .place, second-refused (omega arith) a r f)) (either-file second))
+            ⊎-elim (λ a. ⊎-elim (λ a'. compared (record { vehicle = omega arith; first-allowed = a; second-allowed = a' })) (λ (r, f). inr (r .number, r .place, second-refused (omega arith) a r f)) (either-file second))
             (λ (r, f). inr (r .number, r .place, first-refused (omega arith) r f))
             (either-file first)
       ]

@@ -10,7 +10,7 @@ use native.Mathlib.Omega.{arith}
 use lib.Dec.{eqb, leb}
 use lib.ListN.{length}
 use lib.Seq.{take-at}
-use borrow.Author.Tests.{eqb-false, leb-true, le-leb, ne-eqb, not-true}
+use borrow.Author.Tests.{leb-true, le-leb, ne-eqb}
 use Rattle.member.specs.Fields.{MOST-MEMBERS}
 use Rattle.member.specs.declared.record.Vehicle.{Vehicle}
 use Rattle.rating.specs.Judgement.{permittedFor, judgementOf}
@@ -22,6 +22,7 @@ use Rattle.files.specs.declared.Reading.the-variants.{Taken, Refused}
 use Rattle.files.specs.declared.Refusal.{Refusal}
 use Rattle.files.proofs.Each.{each-same, length-each}
 use Rattle.files.proofs.Faults.{reading-case, refused-not}
+use Rattle.files.proofs.Tests.{not-none}
 use Rattle.files.proofs.Surveys.{taken-allowed, taken-survey, taken-record, taken-count, taken-members, refused-blank}
 use Rattle.between.specs.Order.{ordered, orderAnswer, orderOf}
 use Rattle.between.specs.Between.{test, orElse, firstRefusal, pairAnswer, betweenTests, verdictBetween, boundsWritten, betweenAnswered, betweenList}
@@ -104,17 +105,10 @@ module _ (first second : List ℕ) where
 -- what holds where no test fails
 pub record Passed (v : Vehicle) (first second : List ℕ) (room : ℕ) : Type 0 where
   pub vehicle : 0 < v .axles
-  pub taken : readSurvey first .answer ≡ Taken
-  pub taken' : readSurvey second .answer ≡ Taken
+  pub first-taken : readSurvey first .answer ≡ Taken
+  pub second-taken : readSurvey second .answer ≡ Taken
   pub order : orderOf first second ≡ Taken
   pub room-enough : 2 * countOf first ≤ room
-
-pub not-none : (n : ℕ) → not (eqb n 0) ≡ true → 0 < n
-not-none n h = go (eqb n 0) refl h
-  where
-    go : (t : Bool) → eqb n 0 ≡ t → not t ≡ true → 0 < n
-    go true e h = absurd (mathlib.Core.Bool.false≢true h)
-    go false e h = omega (arith, eqb-false n 0 e)
 
 module _ (v : Vehicle) (first second : List ℕ) (room : ℕ) where
   pub all-passed : firstRefusal (betweenTests v first second room) ≡ Taken → Passed v first second room
@@ -126,24 +120,24 @@ module _ (v : Vehicle) (first second : List ℕ) (room : ℕ) where
       let (enough, none) = both-taken _ _ last in
       record {
         vehicle = not-none (v .axles) (test-holds 12 _ vehicle);
-        taken = a;
-        taken' = b;
+        first-taken = a;
+        second-taken = b;
         order = order;
         room-enough = leb-true _ _ (test-holds 14 _ enough);
       }
 
   pub passed-all : Passed v first second room → firstRefusal (betweenTests v first second room) ≡ Taken
-  passed-all p = rw (ne-eqb (v .axles) 0 (omega (arith, p .vehicle)), p .taken, p .taken', p .order, le-leb _ _ (p .room-enough))
+  passed-all p = rw (ne-eqb (v .axles) 0 (omega (arith, p .vehicle)), p .first-taken, p .second-taken, p .order, le-leb _ _ (p .room-enough))
 
   -- the answer by the tests: none fails
   module _ (p : Passed v first second room) where
     pub same-count : readSurvey first .survey .count ≡ readSurvey second .survey .count
-    same-count = rw (read-count first (p .taken), read-count second (p .taken')) (order-count first second (p .order))
+    same-count = rw (read-count first (p .first-taken), read-count second (p .second-taken)) (order-count first second (p .order))
 
     pub verdict-given : {b : Between} → b ≡ verdictBetween (judgementOf (membersOf (readSurvey first .survey)) v .verdict) (judgementOf (membersOf (readSurvey second .survey)) v .verdict) →
         Given b ≡ betweenAnswered v first second room
     unfolding betweenAnswered
-    verdict-given e = rw (passed-all p, e, read-members first (p .taken), read-members second (p .taken'))
+    verdict-given e = rw (passed-all p, e, read-members first (p .first-taken), read-members second (p .second-taken))
 
   -- or one does
   pub refusal-given : (r : Refusal) → firstRefusal (betweenTests v first second room) ≡ Refused r → NotJudged r ≡ betweenAnswered v first second room
@@ -158,8 +152,8 @@ module _ (v : Vehicle) (first second list : List ℕ) where
   unfolding betweenList
   list-filled p e =
       let same = order-count first second (p .order) in
-      rw (passed-all v first second (length list) p, e, read-count first (p .taken))
-      (bounds-same (countOf first) list (λ i l. ap (permittedFor v) (taken-record second (p .taken') i _ (omega arith))) (λ i l. ap (permittedFor v) (taken-record first (p .taken) i _ l)))
+      rw (passed-all v first second (length list) p, e, read-count first (p .first-taken))
+      (bounds-same (countOf first) list (λ i l. ap (permittedFor v) (taken-record second (p .second-taken) i _ (omega arith))) (λ i l. ap (permittedFor v) (taken-record first (p .first-taken) i _ l)))
 
   pub list-kept : (r : Refusal) → firstRefusal (betweenTests v first second (length list)) ≡ Refused r → list ≡ betweenList v first second list
   unfolding betweenList

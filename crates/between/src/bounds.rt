@@ -57,7 +57,7 @@ pub fn fill(first: Survey, second: Survey, v: Vehicle, list: &mut [u64]) -> Betw
     let mut low = [0u64; LOADS];
     let worst = judging::judge(second, v, &mut low);
     put_bounds(list, low, high, first.count);
-    let passes = best.verdict;
-    let still = worst.verdict;
-    verdict_between(passes, still)
+    let first_verdict = best.verdict;
+    let second_verdict = worst.verdict;
+    verdict_between(first_verdict, second_verdict)
 }

@@ -67,15 +67,16 @@ fn read_pair(first: &[u8], second: &[u8]) -> Pair
 {
     let a = read_survey(first);
     let b = read_survey(second);
-    let lower = a.survey;
-    let upper = b.survey;
-    let own = a.answer;
-    let other = b.answer;
-    let answer = or_else(own, or_else(other, order_answer(lower, upper)));
+    let first_survey = a.survey;
+    let second_survey = b.survey;
+    let first_answer = a.answer;
+    let second_answer = b.answer;
+    let order = order_answer(first_survey, second_survey);
+    let answer = or_else(first_answer, or_else(second_answer, order));
     Pair {
         answer,
-        first: lower,
-        second: upper,
+        first: first_survey,
+        second: second_survey,
     }
 }
 
@@ -86,13 +87,13 @@ pub fn judge_between(v: Vehicle, first: &[u8], second: &[u8], list: &mut [u64]) 
     ensures list { λ r. ⌜ now (list .exit) ≡ betweenList v (now (first .entry)) (now (second .entry)) (now (list .entry)) ⌝ }
 {
     let pair = read_pair(first, second);
-    let lower = pair.first;
-    let upper = pair.second;
+    let first_survey = pair.first;
+    let second_survey = pair.second;
     let files = pair.answer;
-    let room = test(14, 2 * lower.count <= list.len());
+    let room = test(14, 2 * first_survey.count <= list.len());
     let answer = or_else(test(12, v.axles != 0), or_else(files, room));
     match answer {
-        Reading::Taken => BetweenJudged::Verdict(fill(lower, upper, v, list)),
+        Reading::Taken => BetweenJudged::Verdict(fill(first_survey, second_survey, v, list)),
         Reading::Refused(r) => BetweenJudged::Refused(r),
     }
 }

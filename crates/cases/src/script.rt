@@ -78,7 +78,7 @@ fn run_yard(session: Session, bytes: &[u8]) -> Session
     yard::judge(session, &bytes[NUMBER..], number_at(bytes, 0))
 }
 
-// A script that is cut before the second survey has no list: its bytes are printed.
+// A script that is cut within the first survey or before it: its bytes are printed.
 fn run_between(session: Session, bytes: &[u8]) -> Session
     requires { ⌜ Valid session ⌝ }
     ensures { λ r. ⌜ Valid r ⌝ }

@@ -6,7 +6,7 @@ use mathlib.Core.Bool.{Bool, true, false, not, _&&_, _||_, and-true}
 use mathlib.Core.Logic.{_↔_}
 use native.Mathlib.Omega.{arith}
 use lib.Dec.{eqb, leb}
-use borrow.Author.Tests.{leb-true, le-leb, eqb-true, not-true, not-false}
+use borrow.Author.Tests.{leb-true, le-leb, eqb-true, eqb-false, not-true, not-false}
 use Rattle.section.specs.Choose.{choose, all}
 use Rattle.section.proofs.Table.{all-at}
 use Rattle.member.specs.Format.{Range, In}
@@ -59,6 +59,14 @@ module _ (test : ℕ → Bool) where
       go : (b : Bool) → all test n ≡ b → all test n ≡ false
       go false f = f
       go true t = let at : test i ≡ true = all-at test n t i h in let z : _≡_ {A = ℕ} 0 1 = cc in absurd (omega arith)
+
+-- a count that is not 0
+pub not-none : (n : ℕ) → not (eqb n 0) ≡ true → 0 < n
+not-none n h = go (eqb n 0) refl h
+  where
+    go : (t : Bool) → eqb n 0 ≡ t → not t ≡ true → 0 < n
+    go true e h = absurd (mathlib.Core.Bool.false≢true h)
+    go false e h = omega (arith, eqb-false n 0 e)
 
 -- no fault: the test holds
 pub passed : (n : ℕ) (test : Bool) → 0 < n → n unless test ≡ 0 → test ≡ true

@@ -20,11 +20,11 @@ use Rattle.files.proofs.Faults.{refusal}
 use Rattle.files.proofs.Surveys as surveys
 use Rattle.between.specs.Order.{InOrder, LiesBetween}
 use Rattle.between.specs.Between.{firstRefusal, betweenTests, verdictBetween, permittedIn, verdictIn, boundsWritten, betweenAnswered, betweenList}
-use Rattle.between.specs.Fault.{BothAllowed, BetweenFault}
+use Rattle.between.specs.Fault.{MayBeJudged, BetweenFault}
 use Rattle.between.specs.declared.Between.{Between}
 use Rattle.between.specs.declared.Between.the-variants.{All, None, Undecided}
 use Rattle.between.proofs.Lists.{bounds-at, bounds-beyond, bounds-length}
-use Rattle.between.proofs.Named.{Good, fault-refused, passed-good, good-passed, passed-or-fault}
+use Rattle.between.proofs.Named.{fault-refused, passed-good, good-passed, passed-or-fault}
 use Rattle.between.proofs.Pairs.{survey-members, Passed, passed-all}
 use Rattle.between.proofs.Within.{record-at, low-in-order, high-in-order, ends-between, no-higher-load, no-higher-figure, stays-refused}
 use Rattle.session.specs.Answers.{Answer, Outcome, Values, RefusedAt, betweenNumber, valuesOf, verdictNumber}
@@ -140,14 +140,14 @@ module _ (s : Session) (first second list : List ℕ) where
 
   -- the figures of the two ends
   module _ (b : Between) (e : Gives s first second list b) where
-    good : Good (s .vehicle) first second (length list)
+    good : MayBeJudged (s .vehicle) first second (length list)
     good = passed-good _ _ _ _ (given-passed b e)
 
     allowed-first : AllowedSurveyFile first
-    allowed-first = good .allowed .allowed
+    allowed-first = good .allowed .first-allowed
 
     allowed-second : AllowedSurveyFile second
-    allowed-second = good .allowed .allowed'
+    allowed-second = good .allowed .second-allowed
 
     bounds-are : (i : ℕ) → i < countOf first →
         (lowestAt s first second list i ≡ permittedIn (s .vehicle) second i) × (highestAt s first second list i ≡ permittedIn (s .vehicle) first i)
@@ -214,8 +214,8 @@ module _ (s : Session) (first second list : List ℕ) where
   between-taken =
       record {
         taken = (
-          λ (b, e). let g = passed-good _ _ _ _ (given-passed b e) in (g .allowed, g .order, g .room-enough),
-          λ (a, o, r). (ends, given (good-passed _ _ _ _ (record { allowed = a; order = o; room-enough = r }))),
+          λ (b, e). passed-good _ _ _ _ (given-passed b e),
+          λ g. (ends, given (good-passed _ _ _ _ g)),
         );
         figures = figures;
       }

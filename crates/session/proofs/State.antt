@@ -19,9 +19,9 @@ use Rattle.files.specs.declared.Reading.the-variants.{Taken, Refused}
 use Rattle.files.specs.declared.Refusal.{Refusal}
 use Rattle.files.specs.declared.SurveyRead.{SurveyRead}
 use Rattle.files.specs.declared.VehicleRead.{VehicleRead}
-use Rattle.files.proofs.Tests.{none, passed, in-range, range-in}
+use Rattle.files.proofs.Tests.{not-none, none, passed, in-range, range-in}
 use Rattle.files.proofs.Vehicles.{taken-vehicle-allowed}
-use Rattle.between.proofs.Pairs.{not-none, taken-survey-allowed}
+use Rattle.between.proofs.Pairs.{taken-survey-allowed}
 use Rattle.session.specs.Answers.{loaded, judged, judgeAnswer, refusedBy}
 use Rattle.session.specs.Calls.{Valid, newSession, stateFault, rateFault, judgeFault, loadSurvey, loadVehicle, rate, judge, judgeList, loadFiles, thenJudge}
 use Rattle.session.specs.Parts.{Answers}

@@ -14,7 +14,7 @@ use Rattle.files.specs.Reading.{_unless_, firstOf, isIn}
 use Rattle.files.specs.YardFile.{MOST-VEHICLES, vehiclesOf, leftOver}
 use Rattle.files.specs.declared.Reading.the-variants.{Taken}
 use Rattle.files.specs.declared.Refusal.{Refusal}
-use Rattle.files.proofs.Tests.{none, passed, in-range}
+use Rattle.files.proofs.Tests.{not-none, none, passed, in-range}
 use Rattle.rating.specs.declared.judging.Judgement.{Judgement}
 use Rattle.session.specs.Answers.{Answer, Values, RefusedAt, loadAnswer, refusedBy}
 use Rattle.session.specs.Calls.{Valid}
@@ -23,7 +23,6 @@ use Rattle.session.specs.YardRun.{Ran, Answered, refusedYard}
 use Rattle.session.specs.declared.Session.{Session}
 use Rattle.session.specs.declared.yard.Run.{Run}
 use Rattle.session.specs.declared.yard.YardJudged.the-variants.{Passes}
-use Rattle.between.proofs.Pairs.{not-none}
 use Rattle.session.proofs.YardRuns.{first-append, first-none, first-some}
 
 -- a row of tests is the first fault that it has

@@ -1,4 +1,4 @@
--- The answers' numbers: document 01's number and values for every case of each answer.
+-- The answers' numbers: a number and values for every case of each answer, those of the documents where they have them.
 use Prim.Native.Nat.{ℕ}
 use mathlib.Core.List.{List, [], _∷_}
 use Rattle.files.specs.declared.Reading.{Reading}
@@ -81,7 +81,8 @@ abbrev pub yardAnswer : YardJudged → Answer
 yardAnswer (Passes n) = Values (n ∷ [])
 yardAnswer (NotYard r) = refusedBy r
 
--- document 02, request 5/13: "passes for all between, for none, or undecided"; the numbers of all and none are those of pass and refuse
+-- document 02, request 5/13: "passes for all between, for none, or undecided"; the numbers of all and none are those of pass and refuse,
+-- that of undecided the next one
 abbrev pub betweenNumber : Between → ℕ
 betweenNumber All = 1
 betweenNumber None = 0

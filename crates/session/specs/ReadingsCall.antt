@@ -8,8 +8,8 @@ use lib.ListN.{length, getD}
 use Rattle.rating.specs.declared.judging.Verdict.{Verdict}
 use Rattle.rating.specs.declared.judging.Verdict.the-variants.{Pass, Refuse}
 use Rattle.files.specs.SurveyFile.{countOf}
-use Rattle.between.specs.Order.{InOrder, LiesBetween}
-use Rattle.between.specs.Fault.{BothAllowed, BetweenFault}
+use Rattle.between.specs.Order.{LiesBetween}
+use Rattle.between.specs.Fault.{BetweenFault, MayBeJudged}
 use Rattle.between.specs.declared.Between.{Between}
 use Rattle.between.specs.declared.Between.the-variants.{All, None, Undecided}
 use Rattle.session.specs.Answers.{Values, RefusedAt, betweenNumber}
@@ -65,10 +65,9 @@ module _ (s : Session) (first second list : List ℕ) where
     pub none : (b ≡ None) ↔ ((verdictWith s first ≡ Refuse) × (verdictWith s second ≡ Refuse))
     pub undecided : (b ≡ Undecided) ↔ (¬ (verdictWith s first ≡ verdictWith s second))
 
-  -- a verdict is given exactly when a vehicle is loaded, both files are allowed, "the second with rot, losses and dead load as great or
-  -- greater and all else equal", and the list is long enough
+  -- a verdict is given exactly when no test fails, in plain words
   pub record BetweenTaken : Type 0 where
-    pub taken : ((b : Between) × Gives b) ↔ (BothAllowed (s .vehicle) first second × InOrder first second × (2 * countOf first ≤ length list))
+    pub taken : ((b : Between) × Gives b) ↔ MayBeJudged (s .vehicle) first second (length list)
     pub figures : (b : Between) → Gives b → BetweenFigures b
 
   -- Of demand 3: what rate and judge answer of a third survey, where a verdict is given.

@@ -56,11 +56,11 @@ fill-requires c κs =
     let p = no-fault o (c .before .enum-told .given .1) in
     let a = r .read-pair .ensures .1 .0 in
     let b = r .read-pair .ensures .1 .1 in (
-      rw a (taken-survey-allowed _ (p .taken)),
-      rw b (taken-survey-allowed _ (p .taken')),
+      rw a (taken-survey-allowed _ (p .first-taken)),
+      rw b (taken-survey-allowed _ (p .second-taken)),
       r .before .before .before .before .pre (p .vehicle),
       rw (a, b) (same-count _ _ _ _ p),
-      rw (a, read-count _ (p .taken)) (p .room-enough),
+      rw (a, read-count _ (p .first-taken)) (p .room-enough),
     )
 
 enum-known-answer : tie.Need-enum-known-answer

@@ -7,12 +7,6 @@ use reference::generate::VehicleWords;
 use reference::layout::*;
 use reference::script::Script;
 
-/// Case A with this rot: 1720, 1343, 64 and 0 kgf/m for rot 0, 1, 7 and 8.
-fn stringer(rot: u16) -> Words {
-    let sizes = [(SPAN, 500), (SPACING, 140), (DEAD_LOAD, 100), (S1, 28), (S2, rot), (S3, 1)];
-    with(usual(1, 1), &sizes)
-}
-
 /// The call with a list that just holds the first survey's members.
 fn between(script: &mut Script, first: &[Words], second: &[Words]) {
     script.between(&survey_of(first), &survey_of(second), 2 * first.len());

@@ -4,24 +4,6 @@ use crate::records::*;
 use reference::layout::*;
 use reference::script::Script;
 
-/// Case A with this rot.
-fn stringer(rot: u16) -> Words {
-    with(
-        [0; 16],
-        &[
-            (KIND, 1),
-            (SPECIES, 1),
-            (SPAN, 500),
-            (SPACING, 140),
-            (DEAD_LOAD, 100),
-            (SECTION, 1),
-            (S1, 28),
-            (S2, rot),
-            (S3, 1),
-        ],
-    )
-}
-
 fn chord() -> Words {
     let words = with([0; 16], &[(KIND, 3), (SPECIES, 1), (SPAN, 1000), (SPACING, 500)]);
     let words = with(words, &[(FROM_SUPPORT, 200), (TRUSS_HEIGHT, 150), (DEAD_LOAD, 500)]);

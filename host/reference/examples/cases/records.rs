@@ -57,6 +57,24 @@ pub fn full() -> Vec<Words> {
     (0..64).map(|i| all[i % all.len()]).collect()
 }
 
+/// Case A with this rot: 1720, 1343, 64 and 0 kgf/m for rot 0, 1, 7 and 8.
+pub fn stringer(rot: u16) -> Words {
+    with(
+        [0; 16],
+        &[
+            (KIND, 1),
+            (SPECIES, 1),
+            (SPAN, 500),
+            (SPACING, 140),
+            (DEAD_LOAD, 100),
+            (SECTION, 1),
+            (S1, 28),
+            (S2, rot),
+            (S3, 1),
+        ],
+    )
+}
+
 /// Class 0, track 190, these axles: weight and distance from the axle in front.
 pub fn lorry(axles: &[[u16; 2]]) -> VehicleWords {
     VehicleWords { class: 0, track: 190, axles: axles.to_vec() }
