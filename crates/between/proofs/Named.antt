@@ -1,26 +1,26 @@
 -- A refusal names its fault, and a fault its refusal: the tests in their order come to the plain words.
 -- Assumes nothing.
-use Prim.Native.Nat.{ℕ, _+_, _-_, _*_, _≤_, _<_}
-use mathlib.Core.Path.{_≡_, refl, sym, ap, _∙_}
+use Prim.Native.Nat.{ℕ, _+_, _-_, _*_, _<_}
+use mathlib.Core.Path.{_≡_, sym, _∙_}
 use mathlib.Core.List.{List}
 use mathlib.Core.Logic.{_⊎_, inl, inr, ⊎-elim}
 use native.Mathlib.Decide.{ℕ-discrete, decLe}
 use native.Mathlib.Omega.{arith}
 use lib.ListN.{length}
-use borrow.Author.Tests.{ne-eqb, lt-leb, le-leb}
+use borrow.Author.Tests.{ne-eqb, lt-leb}
 use Rattle.member.specs.declared.record.Vehicle.{Vehicle}
 use Rattle.files.specs.Allowed.{AllowedSurveyFile}
-use Rattle.files.specs.Reading.{_unless_, firstFault}
+use Rattle.files.specs.Reading.{_unless_}
 use Rattle.files.specs.Refused.{SurveyRefusal}
 use Rattle.files.specs.SurveyFile.{countOf, recordAt, readSurvey}
 use Rattle.files.specs.Words.{each}
 use Rattle.files.specs.declared.Reading.the-variants.{Taken, Refused}
 use Rattle.files.specs.declared.Refusal.{Refusal}
 use Rattle.files.proofs.Each.{length-each, getD-each}
-use Rattle.files.proofs.Faults.{refusal, reading-case, FaultAt, refused-at}
+use Rattle.files.proofs.Faults.{refusal, reading-case, refused-at}
 use Rattle.files.proofs.Surveys.{taken-allowed, allowed-taken, refused-named, named-refused}
 use Rattle.files.proofs.Tests.{passed}
-use Rattle.between.specs.Order.{ordered, Ordered, OrderedBefore, InOrder, orderOf}
+use Rattle.between.specs.Order.{ordered, orderOf}
 use Rattle.between.specs.Between.{firstRefusal, betweenTests, betweenList}
 use Rattle.between.specs.Fault.{BothAllowed, MayBeJudged, BetweenFault, no-vehicle, first-refused, second-refused, other-count, not-ordered, short-list}
 use Rattle.between.proofs.Orders.{count-differs, count-alike, test-ordered, no-fault, taken-in-order, in-order-taken, first-unordered}

@@ -1,25 +1,25 @@
 -- Records and surveys in order: the tests come to the plain words.
 -- Assumes nothing.
-use Prim.Native.Nat.{ℕ, zero, suc, _+_, _-_, _≤_, _<_}
-use mathlib.Core.Path.{_≡_, refl, sym, ap, _∙_}
+use Prim.Native.Nat.{ℕ, _+_, _-_, _≤_, _<_}
+use mathlib.Core.Path.{_≡_, refl, sym, _∙_}
 use mathlib.Core.Bool.{Bool, true, false, not, _&&_, _||_, and-true, and-false, or-true, or-false, false≢true}
-use mathlib.Core.List.{List, [], _∷_}
+use mathlib.Core.List.{List}
 use mathlib.Core.Logic.{_⊎_, inl, inr, ⊎-elim}
 use native.Mathlib.Decide.{ℕ-discrete}
 use native.Mathlib.Omega.{arith}
 use lib.Dec.{eqb, leb}
-use borrow.Author.Tests.{eqb-true, eqb-false, eq-eqb, ne-eqb, le-leb, leb-true}
-use Rattle.section.specs.Choose.{choose, all}
+use borrow.Author.Tests.{eqb-true, eq-eqb, ne-eqb, le-leb, leb-true}
+use Rattle.section.specs.Choose.{choose}
 use Rattle.section.proofs.Table.{all-at}
 use Rattle.member.specs.Fields.{KIND, CODE, DEAD-LOAD, MU-B, FIELDS, field}
 use Rattle.member.specs.Format.{holds}
-use Rattle.member.specs.Wear.{rotFields, lostFields, rots, wears, Worn, SpreadKept}
+use Rattle.member.specs.Wear.{rotFields, lostFields, rots, wears}
 use Rattle.member.specs.declared.record.Member.{Member}
 use Rattle.files.specs.Reading.{_unless_, firstFault}
 use Rattle.files.specs.SurveyFile.{countOf, recordAt}
 use Rattle.files.specs.Words.{each}
-use Rattle.files.specs.declared.Reading.the-variants.{Taken, Refused}
-use Rattle.files.proofs.Faults.{refusal, refused-not, head-first, head-clear, taken-none, none-taken, fault-at, refused-at}
+use Rattle.files.specs.declared.Reading.the-variants.{Taken}
+use Rattle.files.proofs.Faults.{refusal, refused-not, taken-none, none-taken, fault-at}
 use Rattle.files.proofs.Each.{getD-each}
 use Rattle.files.proofs.Tests.{both, all-of, passed, refutes}
 use Rattle.between.specs.Order.{mustStay, mayGrow, fieldOrdered, ordered, Ordered, orderAnswer, orderOf, OrderedBefore, InOrder}

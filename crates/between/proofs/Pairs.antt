@@ -4,7 +4,7 @@
 use Prim.Native.Nat.{ℕ, _*_, _≤_, _<_}
 use mathlib.Core.Path.{_≡_, refl, sym, ap, _∙_}
 use mathlib.Core.Bool.{Bool, true, false, not}
-use mathlib.Core.List.{List, [], _∷_}
+use mathlib.Core.List.{List}
 use native.Mathlib.Decide.{ℕ-discrete}
 use native.Mathlib.Omega.{arith}
 use lib.Dec.{eqb, leb}
@@ -15,7 +15,6 @@ use Rattle.member.specs.Fields.{MOST-MEMBERS}
 use Rattle.member.specs.declared.record.Vehicle.{Vehicle}
 use Rattle.rating.specs.Judgement.{permittedFor, judgementOf}
 use Rattle.rating.specs.Surveyed.{AllowedSurvey, memberAt, membersOf}
-use Rattle.files.specs.Reading.{_unless_}
 use Rattle.files.specs.SurveyFile.{countOf, recordAt, recordsOf, surveyOf, readSurvey}
 use Rattle.files.specs.declared.Reading.{Reading}
 use Rattle.files.specs.declared.Reading.the-variants.{Taken, Refused}
@@ -23,8 +22,8 @@ use Rattle.files.specs.declared.Refusal.{Refusal}
 use Rattle.files.proofs.Each.{each-same, length-each}
 use Rattle.files.proofs.Faults.{reading-case, refused-not}
 use Rattle.files.proofs.Tests.{not-none}
-use Rattle.files.proofs.Surveys.{taken-allowed, taken-survey, taken-record, taken-count, taken-members, refused-blank}
-use Rattle.between.specs.Order.{ordered, orderAnswer, orderOf}
+use Rattle.files.proofs.Surveys.{taken-survey, taken-record, taken-count, taken-members, refused-blank}
+use Rattle.between.specs.Order.{orderAnswer, orderOf}
 use Rattle.between.specs.Between.{test, orElse, firstRefusal, pairAnswer, betweenTests, verdictBetween, boundsWritten, betweenAnswered, betweenList}
 use Rattle.between.specs.declared.Between.{Between}
 use Rattle.between.specs.declared.BetweenJudged.the-variants.{Verdict as Given}

@@ -8,8 +8,8 @@ use mathlib.Core.List.{List}
 use native.Mathlib.Omega.{arith}
 use lib.ListN.{length}
 use Rattle.member.specs.Fields.{KIND, CODE, FIELDS, field}
-use Rattle.member.specs.Format.{AllowedMember, holds}
-use Rattle.member.specs.Wear.{rotFields, lostFields, rots, wears, Worn, SpreadKept}
+use Rattle.member.specs.Format.{AllowedMember}
+use Rattle.member.specs.Wear.{rotFields, lostFields, rots, wears, Worn}
 use Rattle.member.specs.declared.record.Member.{Member}
 use Rattle.member.specs.declared.record.Vehicle.{Vehicle}
 use Rattle.member.proofs.Falling.{same}

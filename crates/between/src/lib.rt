@@ -1,7 +1,7 @@
 // Rot between two readings: two surveys of one bridge, the second as worn or more. Of every member the lowest and the highest permitted load,
 // and whether the vehicle passes for all surveys between the two.
 ghost use mathlib.Core.Path.{_≡_};
-ghost use Prim.Native.Nat.{_*_, _≤_, _<_};
+ghost use Prim.Native.Nat.{_<_};
 ghost use lib.ListN.{length};
 ghost use Rattle.member.specs.Format.{AllowedVehicle};
 ghost use Rattle.files.specs.SurveyFile.{readSurvey};

@@ -1,25 +1,21 @@
 -- What is claimed of the call on two readings holds: a survey that is loaded has its file's records, and the laws of two surveys in order are
 -- read off for the two ends and for what lies between.
 -- Assumes nothing.
-use Prim.Native.Nat.{ℕ, _+_, _*_, _≤_, _<_}
+use Prim.Native.Nat.{ℕ, _<_}
 use mathlib.Core.Path.{_≡_, refl, sym, ap, _∙_}
-use mathlib.Core.List.{List, [], _∷_}
+use mathlib.Core.List.{List, []}
 use mathlib.Core.Logic.{_⊎_, inl, inr, ⊎-elim, _↔_}
 use native.Mathlib.Omega.{arith}
 use lib.ListN.{length, getD}
-use Rattle.rating.specs.Judgement.{permittedFor, judgementOf}
-use Rattle.rating.specs.Surveyed.{memberAt}
+use Rattle.rating.specs.Judgement.{judgementOf}
 use Rattle.rating.specs.declared.judging.Judgement.{Judgement}
 use Rattle.rating.specs.declared.judging.Verdict.{Verdict}
 use Rattle.rating.specs.declared.judging.Verdict.the-variants.{Pass, Refuse}
 use Rattle.files.specs.Allowed.{AllowedSurveyFile}
-use Rattle.files.specs.SurveyFile.{countOf, recordAt, recordsOf, surveyOf}
-use Rattle.files.specs.declared.Refusal.{Refusal}
-use Rattle.files.specs.declared.Reading.the-variants.{Refused}
-use Rattle.files.proofs.Faults.{refusal}
+use Rattle.files.specs.SurveyFile.{countOf, recordsOf, surveyOf}
 use Rattle.files.proofs.Surveys as surveys
 use Rattle.between.specs.Order.{InOrder, LiesBetween}
-use Rattle.between.specs.Between.{firstRefusal, betweenTests, verdictBetween, permittedIn, verdictIn, boundsWritten, betweenAnswered, betweenList}
+use Rattle.between.specs.Between.{verdictBetween, permittedIn, verdictIn, boundsWritten, betweenAnswered, betweenList}
 use Rattle.between.specs.Fault.{MayBeJudged, BetweenFault}
 use Rattle.between.specs.declared.Between.{Between}
 use Rattle.between.specs.declared.Between.the-variants.{All, None, Undecided}
@@ -29,7 +25,7 @@ use Rattle.between.proofs.Pairs.{survey-members, Passed, passed-all}
 use Rattle.between.proofs.Within.{record-at, low-in-order, high-in-order, ends-between, no-higher-load, no-higher-figure, stays-refused}
 use Rattle.session.specs.Answers.{Answer, Outcome, Values, RefusedAt, betweenNumber, valuesOf, verdictNumber}
 use Rattle.session.specs.Calls.{members, loadSurvey}
-use Rattle.session.specs.Parts.{Answers, permittedAt, judgementIn}
+use Rattle.session.specs.Parts.{permittedAt, judgementIn}
 use Rattle.session.specs.Readings.{judgeBetween, boundsList}
 use Rattle.session.specs.ReadingsCall.{with, verdictWith, figureWith, Gives, lowestAt, highestAt, BetweenAnswered, BetweenFigures, BetweenTaken, WithinBounds, BetweenBounds}
 use Rattle.session.specs.declared.Session.{Session}

@@ -1,6 +1,5 @@
 -- `between::read_pair` meets its contract: the answers in a row, and what was read compared.
 -- Assumes nothing.
-use mathlib.Core.Path.{_≡_, refl}
 use borrow.Author.Needs.{needs}
 use Rattle.between.proofs.Pairs.{read-few, pair-answer}
 use Rattle.between.proofs.read_pair.Statement.{statement}

@@ -1,7 +1,6 @@
 -- `between::bounds::fill` meets its contract: what the two judgements wrote is copied, and their verdicts are compared.
 -- Assumes nothing.
-use Prim.Native.Nat.{ℕ, _*_, _<_}
-use mathlib.Core.Path.{_≡_, refl, _∙_}
+use mathlib.Core.Path.{_≡_, _∙_}
 use native.Mathlib.Omega.{arith}
 use borrow.Author.Needs.{needs}
 use Rattle.between.proofs.Lists.{bounds-length, bounds-same, written-permitted}

@@ -1,7 +1,7 @@
 -- `between::bounds::put_bounds` meets its contract. The loop's invariant: the list is that of the members passed.
 -- Assumes nothing.
 use Prim.Native.Nat.{_*_, _-_, _≤_, _<_}
-use mathlib.Core.Path.{_≡_, refl}
+use mathlib.Core.Path.{_≡_}
 use native.Mathlib.Omega.{arith}
 use lib.ListN.{length, getD, length-set}
 use Rattle.between.specs.Between.{boundsWritten}

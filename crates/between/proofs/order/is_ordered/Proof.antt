@@ -6,7 +6,7 @@ use native.Mathlib.Numerals.{add-one}
 use native.Mathlib.Omega.{arith}
 use borrow.Author.Needs.{needs}
 use Rattle.section.specs.Choose.{all}
-use Rattle.member.specs.Fields.{KIND, CODE, FIELDS, field}
+use Rattle.member.specs.Fields.{FIELDS}
 use Rattle.between.specs.Order.{fieldOrdered, ordered}
 use Rattle.between.proofs.order.is_ordered.Statement.{statement}
 use Rattle.between.proofs.order.is_ordered.Tie as tie
