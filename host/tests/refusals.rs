@@ -106,8 +106,8 @@ fn two_surveys_that_are_not_of_one_bridge() {
     let words = "survey refused, number 15: the two surveys have different counts of members";
     assert_eq!(refusal(Which::Survey, 0).to_string(), words);
     let words = "survey refused, number 15 at member 3: the record is not the first survey's with \
-                 rot, losses and dead load as great or greater and all else equal; of a close \
-                 stringer only the dead load may grow";
+                 rot, losses and dead load as great or greater and all else equal; of closely \
+                 spaced stringers only the dead load may grow";
     assert_eq!(refusal(Which::Survey, 3).to_string(), words);
     let no_words = Refusal { file: Which::Vehicle, number: 9, place: 0 }.meaning();
     assert_eq!(refusal(Which::Vehicle, 0).meaning(), no_words, "a vehicle has no 15");
