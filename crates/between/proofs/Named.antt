@@ -1,7 +1,7 @@
 -- A refusal names its fault, and a fault its refusal: the tests in their order come to the plain words.
 -- Assumes nothing.
 use Prim.Native.Nat.{ℕ, _+_, _-_, _*_, _<_}
-use mathlib.Core.Path.{_≡_, sym, _∙_}
+use mathlib.Core.Path.{_≡_, sym, ap, _∙_}
 use mathlib.Core.List.{List}
 use mathlib.Core.Logic.{_⊎_, inl, inr, ⊎-elim}
 use native.Mathlib.Decide.{ℕ-discrete, decLe}
@@ -10,7 +10,6 @@ use lib.ListN.{length}
 use borrow.Author.Tests.{ne-eqb, lt-leb}
 use Rattle.member.specs.declared.record.Vehicle.{Vehicle}
 use Rattle.files.specs.Allowed.{AllowedSurveyFile}
-use Rattle.files.specs.Reading.{_unless_}
 use Rattle.files.specs.Refused.{SurveyRefusal}
 use Rattle.files.specs.SurveyFile.{countOf, recordAt, readSurvey}
 use Rattle.files.specs.Words.{each}
@@ -20,12 +19,12 @@ use Rattle.files.proofs.Each.{length-each, getD-each}
 use Rattle.files.proofs.Faults.{refusal, reading-case, refused-at}
 use Rattle.files.proofs.Surveys.{taken-allowed, allowed-taken, refused-named, named-refused}
 use Rattle.files.proofs.Tests.{passed}
-use Rattle.between.specs.Order.{ordered, orderOf}
+use Rattle.between.specs.Order.{orderFault, orderOf}
 use Rattle.between.specs.Between.{firstRefusal, betweenTests, betweenList}
 use Rattle.between.specs.Fault.{BothAllowed, MayBeJudged, BetweenFault, no-vehicle, first-refused, second-refused, other-count, not-ordered, short-list}
 use Rattle.between.proofs.Orders.{count-differs, count-alike, test-ordered, no-fault, taken-in-order, in-order-taken, first-unordered}
 use Rattle.between.proofs.Lists.{bounds-length}
-use Rattle.between.proofs.Pairs.{Passed, passed-all}
+use Rattle.between.proofs.Pairs.{Passed, passed-all, list-kept}
 
 -- a survey file is allowed, or refused by its own refusal
 pub either-file : (bytes : List ℕ) → AllowedSurveyFile bytes ⊎ ((r : Refusal) × SurveyRefusal bytes r)
@@ -71,7 +70,7 @@ module _ (v : Vehicle) (first second : List ℕ) (room : ℕ) where
   -- the first record that is not in order
   unordered : BothAllowed v first second → countOf first ≡ countOf second → (r : Refusal) → orderOf first second ≡ Refused r → Outcome
   unordered b same r e =
-      let fault : ℕ → ℕ = λ k. 15 unless ordered (recordAt first k) (recordAt second k) in
+      let fault : ℕ → ℕ = λ k. orderFault (recordAt first k) (recordAt second k) in
       let at = refused-at 1 (each fault (countOf first)) r (sym (count-alike _ _ _ _ same) ∙ e) in
       let i : ℕ = r .place - 1 in
       let inside : i < countOf first = omega (arith, at .below, at .from, length-each fault (countOf first)) in
@@ -113,5 +112,5 @@ pub between-length : (v : Vehicle) (first second list : List ℕ) → length (be
 unfolding betweenList
 between-length v first second list =
     ⊎-elim (λ p. rw (passed-all v first second (length list) p) (bounds-length _ _ (countOf first) list (p .room-enough)))
-    (λ (n, p, f). rw (fault-refused v first second (length list) n p f))
+    (λ (n, p, f). ap length (sym (list-kept v first second list _ (fault-refused v first second (length list) n p f))))
     (passed-or-fault v first second (length list))

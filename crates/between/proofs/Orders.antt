@@ -15,14 +15,14 @@ use Rattle.member.specs.Fields.{KIND, CODE, DEAD-LOAD, MU-B, FIELDS, field}
 use Rattle.member.specs.Format.{holds}
 use Rattle.member.specs.Wear.{rotFields, lostFields, rots, wears}
 use Rattle.member.specs.declared.record.Member.{Member}
-use Rattle.files.specs.Reading.{_unless_, firstFault}
+use Rattle.files.specs.Reading.{firstFault}
 use Rattle.files.specs.SurveyFile.{countOf, recordAt}
 use Rattle.files.specs.Words.{each}
 use Rattle.files.specs.declared.Reading.the-variants.{Taken}
 use Rattle.files.proofs.Faults.{refusal, refused-not, taken-none, none-taken, fault-at}
 use Rattle.files.proofs.Each.{getD-each}
 use Rattle.files.proofs.Tests.{both, all-of, passed, refutes}
-use Rattle.between.specs.Order.{mustStay, mayGrow, fieldOrdered, ordered, Ordered, orderAnswer, orderOf, OrderedBefore, InOrder}
+use Rattle.between.specs.Order.{mustStay, mayGrow, fieldOrdered, ordered, orderFault, Ordered, orderAnswer, orderOf, OrderedBefore, InOrder}
 
 -- the dead load is no rot and no lost area of any section
 neither-holds : (n : ℕ) (b : Bool) (xs ys : List ℕ) → holds n xs ≡ false → holds n ys ≡ false → holds n (choose b xs ys) ≡ false
@@ -77,7 +77,7 @@ module _ (n n' : ℕ) (at at' : ℕ → Member) where
   unfolding orderAnswer
   count-differs d = rw (ne-eqb n n' d)
 
-  pub count-alike : n ≡ n' → orderAnswer n n' at at' ≡ firstFault 1 (each (λ i. 15 unless ordered (at i) (at' i)) n)
+  pub count-alike : n ≡ n' → orderAnswer n n' at at' ≡ firstFault 1 (each (λ i. orderFault (at i) (at' i)) n)
   unfolding orderAnswer
   count-alike e = rw (eq-eqb n n' e)
 
@@ -160,19 +160,19 @@ module _ (m m' : Member) where
 
 -- two surveys, by the tests and in plain words
 module _ (first second : List ℕ) where
-  at-fault : (i : ℕ) → ¬ (Ordered (recordAt first i) (recordAt second i)) → 15 unless ordered (recordAt first i) (recordAt second i) ≡ 15
+  at-fault : (i : ℕ) → ¬ (Ordered (recordAt first i) (recordAt second i)) → orderFault (recordAt first i) (recordAt second i) ≡ 15
   at-fault i n = rw (refutes (ordered (recordAt first i) (recordAt second i)) (test-ordered _ _) n)
 
-  pub no-fault : (i : ℕ) → Ordered (recordAt first i) (recordAt second i) → 15 unless ordered (recordAt first i) (recordAt second i) ≡ 0
+  pub no-fault : (i : ℕ) → Ordered (recordAt first i) (recordAt second i) → orderFault (recordAt first i) (recordAt second i) ≡ 0
   no-fault i o = rw (ordered-test _ _ o)
 
   pub taken-in-order : orderOf first second ≡ Taken → InOrder first second
   taken-in-order e =
       let same = order-count first second e in
-      let none = taken-none 1 (each (λ i. 15 unless ordered (recordAt first i) (recordAt second i)) (countOf first)) (sym (count-alike _ _ _ _ same) ∙ e) in
+      let none = taken-none 1 (each (λ i. orderFault (recordAt first i) (recordAt second i)) (countOf first)) (sym (count-alike _ _ _ _ same) ∙ e) in
       record {
         count = same;
-        records = λ i l. test-ordered _ _ (passed 15 _ (omega arith) (sym (getD-each (λ i. 15 unless ordered (recordAt first i) (recordAt second i)) (countOf first) i 0 l) ∙ none i));
+        records = λ i l. test-ordered _ _ (passed 15 _ (omega arith) (sym (getD-each (λ i. orderFault (recordAt first i) (recordAt second i)) (countOf first) i 0 l) ∙ none i));
       }
 
   pub in-order-taken : InOrder first second → orderOf first second ≡ Taken
@@ -184,4 +184,4 @@ module _ (first second : List ℕ) where
       orderOf first second ≡ refusal 15 (i + 1)
   first-unordered same i l before n =
       count-alike _ _ _ _ same ∙
-      fault-at (λ k. 15 unless ordered (recordAt first k) (recordAt second k)) 1 i (countOf first) 15 l (none-taken 1 _ i (λ k b. no-fault k (before k b))) (at-fault i n) (omega arith)
+      fault-at (λ k. orderFault (recordAt first k) (recordAt second k)) 1 i (countOf first) 15 l (none-taken 1 _ i (λ k b. no-fault k (before k b))) (at-fault i n) (omega arith)

@@ -31,6 +31,10 @@ module _ (m m' : Member) where
   unfoldable pub ordered : Bool
   ordered = all fieldOrdered FIELDS
 
+  -- 15 where it is not so
+  abbrev pub orderFault : ℕ
+  orderFault = 15 unless ordered
+
   -- the same in plain words: worn as in demand 3, and of kind 7 "the same rot and losses, deck rot included"
   pub record Ordered : Type 0 where
     pub worn : Worn m m'
@@ -41,7 +45,7 @@ module _ (m m' : Member) where
 module _ (count count' : ℕ) (at at' : ℕ → Member) where
   -- "15: a different count, place 0, else the first record that is not so ordered or, for kind 7, not so equal"
   abbrev pub orderFaults : List ℕ
-  orderFaults = 15 unless eqb count count' ∷ each (λ i. 15 unless ordered (at i) (at' i)) count
+  orderFaults = 15 unless eqb count count' ∷ each (λ i. orderFault (at i) (at' i)) count
 
   unfoldable pub orderAnswer : Reading
   orderAnswer = firstFault 0 orderFaults

@@ -1,5 +1,5 @@
--- Laws of `each`, the list f 0, .., f (n - 1): it is n long, has f i at i, is that of any f with the same values, and a loop that stores f i at i over blanks makes it
--- one longer.
+-- Laws of `each`, the list f 0, .., f (n - 1): it is n long, has f i at i, is the same for functions that agree below n, and a loop that
+-- stores f i at i over blanks makes it one longer.
 use Prim.Native.Nat.{ℕ, zero, suc, _+_, _-_, _<_}
 use mathlib.Core.Path.{_≡_, refl, ap, sym, _∙_}
 use mathlib.Core.List.{List, [], _∷_, _++_, append-assoc}

@@ -33,7 +33,6 @@ use Rattle.files.specs.Refused.{SurveyRefusal, VehicleRefusal}
 use Rattle.files.specs.Reading.{_unless_, isIn}
 use Rattle.files.specs.SurveyFile.{countOf, recordAt, recordsOf, readSurvey, surveyOf}
 use Rattle.files.specs.VehicleFile.{readVehicle, vehicleOf}
-use Rattle.files.proofs.Each.{length-each, getD-each}
 use Rattle.files.specs.declared.Refusal.{Refusal}
 use Rattle.files.proofs.Tests.{first-is, rows-is, in-range, refutes}
 use Rattle.files.proofs.Faults.{reading-case}
@@ -41,6 +40,7 @@ use Rattle.files.proofs.Surveys as surveys
 use Rattle.files.proofs.Vehicles as vehicles
 use Rattle.between.specs.Fault.{no-vehicle}
 use Rattle.between.proofs.Pairs.{taken-survey-allowed, survey-members}
+use Rattle.between.proofs.Within.{record-at, counted}
 use Rattle.session.specs.Answers.{Outcome, Values, RefusedAt, refusedBy, judgementValues}
 use Rattle.session.specs.Calls.{newSession, members, stateFault, rateFault, judgeFault, loadSurvey, loadVehicle, storedSurvey, storedVehicle, unlessFault, rate, judge, judgeList, loadFiles, thenJudge, judgeFiles}
 use Rattle.session.specs.Demands.{Demand1, Demand2, Demand3}
@@ -271,8 +271,8 @@ files-answered : (s : Session) (survey vehicle : List ℕ) → Holds s survey ve
 files-answered s survey vehicle h =
     let (ms, n, v) = held-files h in
     let a = held-answers h in
-    let at : (i : ℕ) → i < countOf survey → memberAt (members s) i ≡ recordAt survey i = λ i l. rw ms (getD-each (recordAt survey) (countOf survey) i _ l) in
-    let within : (i : ℕ) → i < countOf survey → i < length (members s) = λ i l. rw (ms, length-each (recordAt survey) (countOf survey)) l in
+    let at : (i : ℕ) → i < countOf survey → memberAt (members s) i ≡ recordAt survey i = λ i l. rw ms (record-at survey i l) in
+    let within : (i : ℕ) → i < countOf survey → i < length (members s) = λ i l. rw (ms, counted survey) l in
     record {
       rated = λ i l. rw (← at i l, ← v) (a .rated i (rw n l));
       judged = λ list l. rw (← ms, ← v) (a .judged list (rw n l));

@@ -21,7 +21,7 @@ use Rattle.between.specs.declared.Between.{Between}
 use Rattle.between.specs.declared.Between.the-variants.{All, None, Undecided}
 use Rattle.between.proofs.Lists.{bounds-at, bounds-beyond, bounds-length}
 use Rattle.between.proofs.Named.{fault-refused, passed-good, good-passed, passed-or-fault}
-use Rattle.between.proofs.Pairs.{survey-members, Passed, passed-all}
+use Rattle.between.proofs.Pairs.{survey-members, Passed, passed-all, list-kept}
 use Rattle.between.proofs.Within.{record-at, low-in-order, high-in-order, ends-between, no-higher-load, no-higher-figure, stays-refused}
 use Rattle.session.specs.Answers.{Answer, Outcome, Values, RefusedAt, betweenNumber, valuesOf, verdictNumber}
 use Rattle.session.specs.Calls.{members, loadSurvey}
@@ -120,8 +120,8 @@ module _ (s : Session) (first second list : List ℕ) where
   filled p = rw (passed-all _ _ _ _ p)
 
   untouched : (n p : ℕ) → BetweenFault (s .vehicle) first second (length list) n p → boundsList s first second list ≡ list
-  unfolding boundsList betweenList
-  untouched n p f = rw (fault-refused _ _ _ _ n p f)
+  unfolding boundsList
+  untouched n p f = sym (list-kept _ _ _ _ _ (fault-refused _ _ _ _ n p f))
 
   pub between-answered : BetweenAnswered s first second list
   unfolding judgeBetween

@@ -12,13 +12,13 @@ use Rattle.files.specs.declared.Reading.the-variants.{Taken}
 use Rattle.files.proofs.Faults.{clear-more, fault-at}
 use Rattle.files.proofs.Tests.{fails, holds}
 use Rattle.member.specs.declared.record.Survey.{Survey}
-use Rattle.between.specs.Order.{ordered}
+use Rattle.between.specs.Order.{orderFault}
 use Rattle.between.proofs.Orders.{count-differs, count-alike}
 use Rattle.between.proofs.order.order_answer.Statement.{statement}
 use Rattle.between.proofs.order.order_answer.Tie as tie
 
 abbrev fault : (first second : Survey) (i : ℕ) → ℕ
-fault first second i = 15 unless ordered (memberAt (first .members) i) (memberAt (second .members) i)
+fault first second i = orderFault (memberAt (first .members) i) (memberAt (second .members) i)
 
 abbrev Inv-loop : tie.InvT-loop
 Inv-loop first second count answer₀ i₀ answer i = (i ≤ count) × (answer ≡ Taken) × (firstFault 1 (each (fault first second) i) ≡ Taken)
