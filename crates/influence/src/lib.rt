@@ -1,7 +1,7 @@
 // The influence line: the greatest that a row of axles gives on a triangle, over every position. Only the positions that
 // put an axle over the apex are tried, in both directions of travel; proofs/Apex.antt shows that they are enough.
 ghost use mathlib.Core.Path.{_≡_};
-ghost use Prim.Native.Nat.{_+_, _-_, _*_, _≤_, _<_, max};
+ghost use Prim.Native.Nat.{_+_, _-_, _*_, _^_, _≤_, _<_, max};
 ghost use Rattle.section.specs.Fraction.{over, ceiling};
 ghost use Rattle.section.specs.Units.{weight};
 ghost use Rattle.influence.specs.Influence.{Triangle, perMetre, behind, vehicleLoad};
@@ -124,7 +124,8 @@ fn other_top(
 // axles of 200,000 kgf at a scaled height of 10,000 × 10,000.
 fn per_metre(base: HalfCm, apex: HalfCm, sum: ScaledSum) -> KgfPerM
     requires { ⌜ Triangle (base .0) (apex .0) × (base .0 ≤ 10000) × (sum .0 ≤ 320000000000000) ⌝ }
-    ensures { λ r. ⌜ r .0 ≡ ceiling (perMetre (base .0) (over (sum .0) (apex .0 * (base .0 - apex .0)))) ⌝ }
+    ensures is { λ r. ⌜ r .0 ≡ ceiling (perMetre (base .0) (over (sum .0) (apex .0 * (base .0 - apex .0)))) ⌝ }
+    ensures cap { λ r. ⌜ r .0 < 2 ^ 63 ⌝ }
 {
     let scale = apex.0 * (base.0 - apex.0);
     let load = fraction::round_up(400 * sum.0, scale * base.0);
@@ -140,7 +141,8 @@ pub fn vehicle_load(
     distances: [Cm; 16],
 ) -> KgfPerM
     requires { ⌜ Bounded (base .0) (apex .0) axles weights distances ⌝ }
-    ensures { λ r. ⌜ r .0 ≡ vehicleLoad (base .0) (apex .0) weights distances axles ⌝ }
+    ensures is { λ r. ⌜ r .0 ≡ vehicleLoad (base .0) (apex .0) weights distances axles ⌝ }
+    ensures cap { λ r. ⌜ r .0 < 2 ^ 63 ⌝ }
 {
     let mirrored = beyond(base, apex);
     let one_way = apex_top(base, apex, axles, weights, distances);

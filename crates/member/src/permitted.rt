@@ -1,7 +1,7 @@
 // The permitted load of a member, from its record, the vehicle's class and its track.
 ghost use mathlib.Core.Path.{_≡_};
 ghost use mathlib.Core.Bool.{true};
-ghost use Prim.Native.Nat.{ℕ, _*_, _≤_};
+ghost use Prim.Native.Nat.{ℕ, _*_, _^_, _≤_, _<_};
 ghost use Rattle.section.specs.Fraction.{over, _≐_};
 ghost use Rattle.section.specs.Species.{bendingTenths, shearTenths};
 ghost use Rattle.member.specs.Fields.{KIND, SPECIES, CODE, MU-B, field};
@@ -122,7 +122,8 @@ fn joint_front(m: Member) -> u64
 
 fn stringer_load(m: Member, class: u8, track: Cm) -> KgfPerM
     requires { ⌜ AllowedMember m × (field m KIND ≡ 1) ⌝ }
-    ensures { λ r. ⌜ r .0 ≡ permittedLoad m class (track .0) ⌝ }
+    ensures is { λ r. ⌜ r .0 ≡ permittedLoad m class (track .0) ⌝ }
+    ensures cap { λ r. ⌜ r .0 < 2 ^ 63 ⌝ }
 {
     stringer(
         modulus_thirtieths(m),
@@ -158,7 +159,8 @@ fn stiffness(m: Member) -> u64
 
 fn close_stringer_load(m: Member, class: u8, track: Cm) -> KgfPerM
     requires { ⌜ AllowedMember m × (field m KIND ≡ 7) ⌝ }
-    ensures { λ r. ⌜ r .0 ≡ permittedLoad m class (track .0) ⌝ }
+    ensures is { λ r. ⌜ r .0 ≡ permittedLoad m class (track .0) ⌝ }
+    ensures cap { λ r. ⌜ r .0 < 2 ^ 63 ⌝ }
 {
     close_stringer(
         modulus_thirtieths(m),
@@ -173,7 +175,8 @@ fn close_stringer_load(m: Member, class: u8, track: Cm) -> KgfPerM
 // The same for every track: a cross beam's formula has none.
 fn cross_beam_load(m: Member, class: u8) -> KgfPerM
     requires { ⌜ AllowedMember m × (field m KIND ≡ 2) ⌝ }
-    ensures { λ r. ⌜ ((track : ℕ) → r .0 ≡ permittedLoad m class track) ⌝ }
+    ensures is { λ r. ⌜ ((track : ℕ) → r .0 ≡ permittedLoad m class track) ⌝ }
+    ensures cap { λ r. ⌜ r .0 < 2 ^ 63 ⌝ }
 {
     cross_beam(
         modulus_thirtieths(m),
@@ -187,7 +190,8 @@ fn cross_beam_load(m: Member, class: u8) -> KgfPerM
 
 fn chord_load(m: Member, class: u8, track: Cm) -> KgfPerM
     requires { ⌜ AllowedMember m × (field m KIND ≡ 3) ⌝ }
-    ensures { λ r. ⌜ r .0 ≡ permittedLoad m class (track .0) ⌝ }
+    ensures is { λ r. ⌜ r .0 ≡ permittedLoad m class (track .0) ⌝ }
+    ensures cap { λ r. ⌜ r .0 < 2 ^ 63 ⌝ }
 {
     chord(
         m.height(),
@@ -204,7 +208,8 @@ fn chord_load(m: Member, class: u8, track: Cm) -> KgfPerM
 
 fn joint_load(m: Member, class: u8, track: Cm) -> KgfPerM
     requires { ⌜ AllowedMember m × (4 ≤ field m KIND) × (field m KIND ≤ 6) ⌝ }
-    ensures { λ r. ⌜ r .0 ≡ permittedLoad m class (track .0) ⌝ }
+    ensures is { λ r. ⌜ r .0 ≡ permittedLoad m class (track .0) ⌝ }
+    ensures cap { λ r. ⌜ r .0 < 2 ^ 63 ⌝ }
 {
     joint(
         joint_front(m),
@@ -222,7 +227,8 @@ fn joint_load(m: Member, class: u8, track: Cm) -> KgfPerM
 // The permitted load of a member for a vehicle of this class and track.
 pub fn permitted_load(m: Member, class: u8, track: Cm) -> KgfPerM
     requires { ⌜ AllowedMember m ⌝ }
-    ensures { λ r. ⌜ r .0 ≡ permittedLoad m class (track .0) ⌝ }
+    ensures is { λ r. ⌜ r .0 ≡ permittedLoad m class (track .0) ⌝ }
+    ensures cap { λ r. ⌜ r .0 < 2 ^ 63 ⌝ }
 {
     let kind = m.number(KIND);
     if kind == 1 {

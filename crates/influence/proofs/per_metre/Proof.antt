@@ -2,10 +2,10 @@
 -- Assumes nothing.
 use Prim.Native.Nat.{_*_}
 use mathlib.Core.Path.{ap, _∙_}
-use native.Mathlib.Nat.{mul-pos, mul-le-mul}
+use native.Mathlib.Nat.{mul-pos, div-le-self, lt-of-le-of-lt}
 use native.Mathlib.Omega.{arith}
 use borrow.Author.Needs.{needs}
-use Rattle.section.specs.Fraction.{ceiling}
+use Rattle.section.specs.Fraction.{over, ceiling}
 use Rattle.influence.proofs.Scaled.{divisor-above-0}
 use Rattle.section.proofs.Products.{product-fits, product-cap}
 use Rattle.influence.proofs.Steps.{divisor-cap, load-over}
@@ -33,7 +33,13 @@ round-up-requires c κs =
     )
 
 returns : tie.Need-returns
-returns c = c .round-up .ensures .0 ∙ ap ceiling (load-over _ _ _ (omega arith) (omega arith))
+unfolding over ceiling
+returns c =
+    let start = c .before .before .before .before .before .before in (
+      c .round-up .ensures .0 ∙ ap ceiling (load-over _ _ _ (omega arith) (omega arith)),
+      rw (c .round-up .ensures .0)
+          (lt-of-le-of-lt (div-le-self _ _) (omega (arith, divisor-cap (start .args .base .0) (start .args .apex .0) (omega arith) (omega arith)))),
+    )
 
 pub per-metre-spec : {M : Type 1} → statement M
 per-metre-spec =

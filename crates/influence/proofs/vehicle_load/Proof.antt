@@ -29,9 +29,11 @@ per-metre-requires c κs =
 returns : tie.Need-returns
 returns c =
     let tops = c .before .before .before in
-    let start = tops .before .before in
-    load-from-tops (start .args .weights) (start .args .distances) (start .args .axles) (start .pre .triangle)
-    (c .per-metre .ensures) (c .before .greater .ensures) (tops .apex-top .ensures) (rw (tops .before .beyond .ensures) at (c .before .before .other-top .ensures))
+    let start = tops .before .before in (
+      load-from-tops (start .args .weights) (start .args .distances) (start .args .axles) (start .pre .triangle)
+          (c .per-metre .ensures .0) (c .before .greater .ensures) (tops .apex-top .ensures) (rw (tops .before .beyond .ensures) at (c .before .before .other-top .ensures)),
+      c .per-metre .ensures .1,
+    )
 
 pub vehicle-load-spec : {M : Type 1} → statement M
 vehicle-load-spec =

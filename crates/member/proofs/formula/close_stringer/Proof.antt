@@ -2,10 +2,11 @@
 -- Assumes nothing.
 use Prim.Native.Nat.{_*_}
 use mathlib.Core.Path.{sym}
-use native.Mathlib.Nat.{mul-pos}
+use native.Mathlib.Nat.{mul-pos, mul-le-mul}
 use native.Mathlib.Omega.{arith}
 use Rattle.section.specs.Fraction.{over, floor}
 use Rattle.section.proofs.Products.{product-fits, product-cap}
+use Rattle.member.proofs.Divisors.{half-fits}
 use Rattle.member.proofs.Whole.{close-stringer-whole}
 use borrow.Author.Needs.{needs}
 use Rattle.member.proofs.formula.close_stringer.Statement.{statement}
@@ -52,8 +53,12 @@ returns : tie.Need-returns
 unfolding over floor
 returns c =
     let a = c .before .before .before .before .args in
-    rw (c .round-down .ensures .0, c .before .less .ensures)
-    (sym (close-stringer-whole (a .w) (a .k) (a .n) (a .q .0) (a .l .0) (a .beta) (omega arith) (omega arith) (omega arith)))
+    let p = c .before .before .before .before .pre in (
+      rw (c .round-down .ensures .0, c .before .less .ensures)
+          (sym (close-stringer-whole (a .w) (a .k) (a .n) (a .q .0) (a .l .0) (a .beta) (omega arith) (omega arith) (omega arith))),
+      rw (c .round-down .ensures .0) (half-fits _ _ (mul-round-down (c .before) .fits)
+          (mul-le-mul {n₁ = 2} {m₁ = 1} (mul-le-mul {n₁ = 2} {m₁ = 1} (omega (arith, p .1 .load-factor-low)) (p .2)) (mul-pos (p .1 .span-low) (p .1 .span-low)))),
+    )
 
 pub close-stringer-spec : {M : Type 1} → statement M
 close-stringer-spec =

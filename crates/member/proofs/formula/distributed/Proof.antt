@@ -2,10 +2,10 @@
 -- Assumes nothing.
 use Prim.Native.Nat.{_*_, _/_, _≤_}
 use mathlib.Core.Path.{_≡_, ap, _∙_}
-use native.Mathlib.Nat.{div-div-eq-div-mul}
+use native.Mathlib.Nat.{div-div-eq-div-mul, div-le-self, lt-of-le-of-lt}
 use native.Mathlib.Omega.{arith}
 use Rattle.section.specs.Fraction.{over, floor}
-use Rattle.member.proofs.Divisors.{Divisor, divisor}
+use Rattle.member.proofs.Divisors.{Divisor, divisor, share-fits}
 use borrow.Author.Needs.{needs}
 use Rattle.member.proofs.formula.distributed.Statement.{statement}
 use Rattle.member.proofs.formula.distributed.Tie as tie
@@ -26,7 +26,7 @@ mul-quotient : tie.Need-mul-quotient
 mul-quotient c = omega (arith, spread c)
 
 quotient-requires : tie.Need-quotient-requires
-quotient-requires c κs = (spread c .above-0, spread c .at-least, spread c .fits)
+quotient-requires c κs = (spread c .above-0, omega (arith, spread c .at-least), spread c .fits)
 
 round-down-requires : tie.Need-round-down-requires
 round-down-requires c κs = search needs
@@ -34,7 +34,11 @@ round-down-requires c κs = search needs
 returns : tie.Need-returns
 unfolding over floor
 returns c =
-    rw (c .round-down .ensures .0, c .before .quotient .ensures, c .before .before .before .lesser .ensures) (div-div-eq-div-mul _ _ _)
+    let s = spread (c .before .before) in (
+      rw (c .round-down .ensures .0, c .before .quotient .ensures, c .before .before .before .lesser .ensures) (div-div-eq-div-mul _ _ _),
+      rw (c .round-down .ensures .0, c .before .quotient .ensures)
+          (lt-of-le-of-lt (div-le-self _ _) (share-fits _ _ _ (c .before .before .before .before .fits .x .fits) (s .above-0) (omega (arith, s .at-least)))),
+    )
 
 pub distributed-spec : {M : Type 1} → statement M
 distributed-spec =

@@ -37,17 +37,19 @@ distributed-requires c κs =
 returns : tie.Need-returns
 unfolding distribution
 returns c =
-    let a = c .before .before .before .before .before .before .args in
-    rw (c .distributed .ensures, c .before .less .ensures)
-    (sym
-    (joint-whole (a .front) (a .n) (a .q .0) (a .a) (a .b) (a .l .0) (a .x .0) (a .d .0) (2 * a .d .0 - min (a .track .0) (a .d .0))
-    (omega arith)
-    (omega arith)
-    (omega arith)
-    (omega arith)
-    (omega arith)
-    (omega arith)
-    (omega arith)))
+    let a = c .before .before .before .before .before .before .args in (
+      rw (c .distributed .ensures .0, c .before .less .ensures)
+          (sym
+          (joint-whole (a .front) (a .n) (a .q .0) (a .a) (a .b) (a .l .0) (a .x .0) (a .d .0) (2 * a .d .0 - min (a .track .0) (a .d .0))
+          (omega arith)
+          (omega arith)
+          (omega arith)
+          (omega arith)
+          (omega arith)
+          (omega arith)
+          (omega arith))),
+      c .distributed .ensures .1,
+    )
 
 pub joint-spec : {M : Type 1} → statement M
 joint-spec =

@@ -37,13 +37,15 @@ distributed-requires c κs =
 returns : tie.Need-returns
 unfolding distribution
 returns c =
-    let a = c .before .before .before .before .args in
-    rw (c .distributed .ensures, c .before .less .ensures)
-    (sym
-    (stringer-whole (a .w) (a .k) (a .n) (a .q .0) (a .l .0) (a .d .0) (2 * a .d .0 - min (a .track .0) (a .d .0)) (omega arith)
-    (omega arith)
-    (omega arith)
-    (omega arith)))
+    let a = c .before .before .before .before .args in (
+      rw (c .distributed .ensures .0, c .before .less .ensures)
+          (sym
+          (stringer-whole (a .w) (a .k) (a .n) (a .q .0) (a .l .0) (a .d .0) (2 * a .d .0 - min (a .track .0) (a .d .0)) (omega arith)
+          (omega arith)
+          (omega arith)
+          (omega arith))),
+      c .distributed .ensures .1,
+    )
 
 pub stringer-spec : {M : Type 1} → statement M
 stringer-spec =

@@ -51,18 +51,20 @@ chord-requires c κs =
 
 returns : tie.Need-returns
 returns c =
-    let a = c .before .before .before .before .before .before .before .before .before .args in
-    rw (
-      c .chord .ensures,
-      c .before .before .before .before .before .before .before .before .height .ensures,
-      c .before .before .before .before .before .before .before .chord-area .ensures .0,
-      c .before .before .before .before .before .before .bending .ensures .0,
-      c .before .before .before .before .before .load-factor .ensures .0,
-      c .before .before .before .before .dead-load .ensures,
-      c .before .before .before .span .ensures,
-      c .before .before .distance .ensures,
-      c .before .spacing .ensures,
-      chord-load (a .m) (a .class) (a .track .0) (c .before .before .before .before .before .before .before .before .before .pre .1),
+    let a = c .before .before .before .before .before .before .before .before .before .args in (
+      rw (
+        c .chord .ensures .0,
+        c .before .before .before .before .before .before .before .before .height .ensures,
+        c .before .before .before .before .before .before .before .chord-area .ensures .0,
+        c .before .before .before .before .before .before .bending .ensures .0,
+        c .before .before .before .before .before .load-factor .ensures .0,
+        c .before .before .before .before .dead-load .ensures,
+        c .before .before .before .span .ensures,
+        c .before .before .distance .ensures,
+        c .before .spacing .ensures,
+        chord-load (a .m) (a .class) (a .track .0) (c .before .before .before .before .before .before .before .before .before .pre .1),
+      ),
+      c .chord .ensures .1,
     )
 
 pub chord-load-spec : {M : Type 1} → statement M

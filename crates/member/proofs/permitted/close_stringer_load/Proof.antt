@@ -60,23 +60,25 @@ returns : tie.Need-returns
 unfolding betaOf
 returns c =
     let a = c .before .before .before .before .before .before .before .before .before .args in
-    let p = c .before .before .before .before .before .before .before .before .before .pre in
-    rw (
-      c .close-stringer .ensures,
-      c .before .before .before .before .before .before .before .bending .ensures .0,
-      c .before .before .before .before .before .before .load-factor .ensures .0,
-      c .before .before .before .before .before .dead-load .ensures,
-      c .before .before .before .before .span .ensures,
-      c .before .beta .ensures .0,
-      c .before .before .before .stiffness .ensures .0,
-      c .before .before .spacing .ensures,
-      close-load (a .m) (a .class) (a .track .0) (p .1),
+    let p = c .before .before .before .before .before .before .before .before .before .pre in (
+      rw (
+        c .close-stringer .ensures .0,
+        c .before .before .before .before .before .before .before .bending .ensures .0,
+        c .before .before .before .before .before .before .load-factor .ensures .0,
+        c .before .before .before .before .before .dead-load .ensures,
+        c .before .before .before .before .span .ensures,
+        c .before .beta .ensures .0,
+        c .before .before .before .stiffness .ensures .0,
+        c .before .before .spacing .ensures,
+        close-load (a .m) (a .class) (a .track .0) (p .1),
+      )
+          (close-stringer-same _ _ _ _ _
+          (close-stringer-valid (over-sound _ 30 (omega arith)) (tenths-sound _) (load-factor-positive (a .class)) (hundredths-sound _) (span-positive (p .0))
+          (over-positive _ 10000 (beta-above-0 _ (field (a .m) SPACING) (a .track .0) (omega (arith, close (p .0) (p .1) .spacing-low))) (omega arith)))
+          (valid-close (p .0) (a .class) (a .track .0) (p .1))
+          (c .before .before .before .before .before .before .before .before .modulus-thirtieths .ensures .0)),
+      c .close-stringer .ensures .1,
     )
-    (close-stringer-same _ _ _ _ _
-    (close-stringer-valid (over-sound _ 30 (omega arith)) (tenths-sound _) (load-factor-positive (a .class)) (hundredths-sound _) (span-positive (p .0))
-    (over-positive _ 10000 (beta-above-0 _ (field (a .m) SPACING) (a .track .0) (omega (arith, close (p .0) (p .1) .spacing-low))) (omega arith)))
-    (valid-close (p .0) (a .class) (a .track .0) (p .1))
-    (c .before .before .before .before .before .before .before .before .modulus-thirtieths .ensures .0))
 
 pub close-stringer-load-spec : {M : Type 1} → statement M
 close-stringer-load-spec =

@@ -46,23 +46,25 @@ cross-beam-requires c κs =
 
 returns : tie.Need-returns
 unfolding used unusedByKind unusedByCode bending suits
-returns c track =
+returns c =
     let a = c .before .before .before .before .before .before .before .args in
-    let p = c .before .before .before .before .before .before .before .pre in
-    rw (
-      c .cross-beam .ensures,
-      c .before .before .before .before .before .bending .ensures .0,
-      c .before .before .before .before .load-factor .ensures .0,
-      c .before .before .before .dead-load .ensures,
-      c .before .before .span .ensures,
-      c .before .distance .ensures,
-      cross-beam-load (a .m) (a .class) track (p .1),
+    let p = c .before .before .before .before .before .before .before .pre in (
+      λ track. rw (
+        c .cross-beam .ensures .0,
+        c .before .before .before .before .before .bending .ensures .0,
+        c .before .before .before .before .load-factor .ensures .0,
+        c .before .before .before .dead-load .ensures,
+        c .before .before .span .ensures,
+        c .before .distance .ensures,
+        cross-beam-load (a .m) (a .class) track (p .1),
+      )
+          (cross-beam-same _ _ _ _ _
+          (cross-beam-valid (over-sound _ 30 (omega arith)) (tenths-sound _) (load-factor-positive (a .class)) (hundredths-sound _) (span-positive (p .0))
+          (whole-positive _ (panel (p .0) (p .1) .low)))
+          (valid-cross-beam (p .0) (a .class) track (p .1))
+          (c .before .before .before .before .before .before .modulus-thirtieths .ensures .0)),
+      c .cross-beam .ensures .1,
     )
-    (cross-beam-same _ _ _ _ _
-    (cross-beam-valid (over-sound _ 30 (omega arith)) (tenths-sound _) (load-factor-positive (a .class)) (hundredths-sound _) (span-positive (p .0))
-    (whole-positive _ (panel (p .0) (p .1) .low)))
-    (valid-cross-beam (p .0) (a .class) track (p .1))
-    (c .before .before .before .before .before .before .modulus-thirtieths .ensures .0))
 
 pub cross-beam-load-spec : {M : Type 1} → statement M
 cross-beam-load-spec =

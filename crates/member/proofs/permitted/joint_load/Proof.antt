@@ -45,26 +45,28 @@ returns : tie.Need-returns
 returns c =
     let a = c .before .before .before .before .before .before .before .before .before .args in
     let p = c .before .before .before .before .before .before .before .before .before .pre in
-    let j = joint (p .0) (p .1) (p .2) in
-    rw (
-      c .joint .ensures,
-      c .before .before .before .before .before .before .before .load-factor .ensures .0,
-      c .before .before .before .before .before .before .dead-load .ensures,
-      c .before .before .before .before .before .number .ensures,
-      c .before .before .before .before .number2 .ensures,
-      c .before .before .before .span .ensures,
-      c .before .before .distance .ensures,
-      c .before .spacing .ensures,
-      joint-load (a .m) (a .class) (a .track .0) (p .1) (p .2),
+    let j = joint (p .0) (p .1) (p .2) in (
+      rw (
+        c .joint .ensures .0,
+        c .before .before .before .before .before .before .before .load-factor .ensures .0,
+        c .before .before .before .before .before .before .dead-load .ensures,
+        c .before .before .before .before .before .number .ensures,
+        c .before .before .before .before .number2 .ensures,
+        c .before .before .before .span .ensures,
+        c .before .before .distance .ensures,
+        c .before .spacing .ensures,
+        joint-load (a .m) (a .class) (a .track .0) (p .1) (p .2),
+      )
+          (joint-same _ _ _ _ _ _
+          (joint-valid (whole (field (a .m) SPAN)) (over-sound _ (1000 * field (a .m) MU-B) (omega (arith, j .ratio .low-b))) (load-factor-positive (a .class)) (hundredths-sound _)
+          (over-positive _ _ (j .ratio .low-a) (j .ratio .low-b))
+          (rest-positive _ _ (j .distance .high))
+          (whole-positive _ (j .distance .low))
+          (distribution-positive _ (a .track .0) (j .spaced .low)))
+          (valid-joint (p .0) (a .class) (a .track .0) (j .distance) (j .spaced) (j .ratio))
+          (c .before .before .before .before .before .before .before .before .joint-front .ensures)),
+      c .joint .ensures .1,
     )
-    (joint-same _ _ _ _ _ _
-    (joint-valid (whole (field (a .m) SPAN)) (over-sound _ (1000 * field (a .m) MU-B) (omega (arith, j .ratio .low-b))) (load-factor-positive (a .class)) (hundredths-sound _)
-    (over-positive _ _ (j .ratio .low-a) (j .ratio .low-b))
-    (rest-positive _ _ (j .distance .high))
-    (whole-positive _ (j .distance .low))
-    (distribution-positive _ (a .track .0) (j .spaced .low)))
-    (valid-joint (p .0) (a .class) (a .track .0) (j .distance) (j .spaced) (j .ratio))
-    (c .before .before .before .before .before .before .before .before .joint-front .ensures))
 
 pub joint-load-spec : {M : Type 1} → statement M
 joint-load-spec =

@@ -17,7 +17,7 @@ cross-beam-load-requires : tie.Need-cross-beam-load-requires
 cross-beam-load-requires c κs = search needs
 
 returns-2 : tie.Need-returns-2
-returns-2 c = c .cross-beam-load .ensures _
+returns-2 c = (c .cross-beam-load .ensures .0 _, c .cross-beam-load .ensures .1)
 
 chord-load-requires : tie.Need-chord-load-requires
 chord-load-requires c κs = search needs

@@ -48,21 +48,23 @@ returns : tie.Need-returns
 unfolding used unusedByKind unusedByCode bending suits
 returns c =
     let a = c .before .before .before .before .before .before .before .args in
-    let p = c .before .before .before .before .before .before .before .pre in
-    rw (
-      c .stringer .ensures,
-      c .before .before .before .before .before .bending .ensures .0,
-      c .before .before .before .before .load-factor .ensures .0,
-      c .before .before .before .dead-load .ensures,
-      c .before .before .span .ensures,
-      c .before .spacing .ensures,
-      stringer-load (a .m) (a .class) (a .track .0) (p .1),
+    let p = c .before .before .before .before .before .before .before .pre in (
+      rw (
+        c .stringer .ensures .0,
+        c .before .before .before .before .before .bending .ensures .0,
+        c .before .before .before .before .load-factor .ensures .0,
+        c .before .before .before .dead-load .ensures,
+        c .before .before .span .ensures,
+        c .before .spacing .ensures,
+        stringer-load (a .m) (a .class) (a .track .0) (p .1),
+      )
+          (stringer-same _ _ _ _ _
+          (stringer-valid (over-sound _ 30 (omega arith)) (tenths-sound _) (load-factor-positive (a .class)) (hundredths-sound _) (span-positive (p .0))
+          (distribution-positive _ (a .track .0) (spacing (p .0) 1 (p .1) refl refl .low)))
+          (valid-stringer (p .0) (a .class) (a .track .0) (p .1))
+          (c .before .before .before .before .before .before .modulus-thirtieths .ensures .0)),
+      c .stringer .ensures .1,
     )
-    (stringer-same _ _ _ _ _
-    (stringer-valid (over-sound _ 30 (omega arith)) (tenths-sound _) (load-factor-positive (a .class)) (hundredths-sound _) (span-positive (p .0))
-    (distribution-positive _ (a .track .0) (spacing (p .0) 1 (p .1) refl refl .low)))
-    (valid-stringer (p .0) (a .class) (a .track .0) (p .1))
-    (c .before .before .before .before .before .before .modulus-thirtieths .ensures .0))
 
 pub stringer-load-spec : {M : Type 1} → statement M
 stringer-load-spec =
