@@ -14,14 +14,14 @@ use Rattle.member.specs.Format.{AllowedMember}
 use Rattle.rating.specs.Compare.{Heavier, Matching, SpreadsKept, SamePlaces}
 use Rattle.member.specs.Wear.{rotFields, lostFields, rots, wears, Worn, SpreadKept}
 use Rattle.rating.specs.VehicleLoad.{vehicleLoadOn}
-use Rattle.rating.specs.Judgement.{verdictOf, permittedFor, passes, everyPasses, ratingOf, judgementOf}
+use Rattle.rating.specs.Judgement.{verdictOf, permittedFor, passes, everyPasses, figure, ratingOf, judgementOf}
 use Rattle.rating.specs.Surveyed.{memberAt, AllowedMembers}
 use Rattle.member.specs.declared.record.Member.{Member}
 use Rattle.member.specs.declared.record.Vehicle.{Vehicle}
 use Rattle.rating.specs.declared.judging.Verdict.the-variants.{Refuse}
 use Rattle.member.proofs.Falling.{same, same-kind, permitted-load-falls}
 use Rattle.rating.proofs.Lines.{line-sized}
-use Rattle.rating.proofs.Places.{least-below, least-had}
+use Rattle.rating.proofs.Least.{orders-ℕ, least-below, least-had}
 
 stays-refused : (b b' : Bool) → (b' ≡ true → b ≡ true) → verdictOf b ≡ Refuse → verdictOf b' ≡ Refuse
 stays-refused true true f e = e
@@ -69,10 +69,10 @@ module _ {v v' : Vehicle} (hv : Heavier v v') where
     pub figure-falls : 1 ≤ length ms → judgementOf ms' v' .figure .0 ≤ judgementOf ms v .figure .0
     unfolding judgementOf
     figure-falls l =
-        let h = least-had (permittedFor v) ms l in
-        let i = h .index in
-        let inside = t .inside i (h .inside) in
-        omega (arith, h .gives, least-below (permittedFor v') ms' (t .partner i) inside, permitted-falls (a i (h .inside)) (a' (t .partner i) inside) (t .worn i (h .inside)) (k i (h .inside)))
+        let h = least-had orders-ℕ 0 (permittedFor v) ms l in
+        let i = h .0 in
+        let inside = t .inside i (h .1) in
+        omega (arith, h .2, leb-true (figure v' ms') (permittedFor v' (memberAt ms' (t .partner i))) (least-below orders-ℕ 0 (permittedFor v') ms' (t .partner i) inside), permitted-falls (a i (h .1)) (a' (t .partner i) inside) (t .worn i (h .1)) (k i (h .1)))
 
     -- no bridge's verdict turns from refuse to pass
     pub bridge-stays-refused : judgementOf ms v .verdict ≡ Refuse → judgementOf ms' v' .verdict ≡ Refuse

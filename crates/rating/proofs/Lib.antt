@@ -1,5 +1,8 @@
 pub mod Cases
+pub mod Least
+pub mod Governing
 pub mod Lines
+pub mod Margins
 pub mod Places
 pub mod Surveys
 pub mod Turns

@@ -1,20 +1,23 @@
 -- One more member: what a turn of the loop in `judge` does to the judgement and to the list is what the definitions give of the
 -- members so far and that one.
 -- Assumes nothing.
-use Prim.Native.Nat.{ℕ, suc, _+_, _*_, _≤_, _<_, min}
-use mathlib.Core.Path.{_≡_, refl, _∙_}
+use Prim.Native.Nat.{ℕ, suc, _+_, _*_, _≤_, _<_}
+use mathlib.Core.Path.{_≡_, refl, sym, _∙_}
 use mathlib.Core.Bool.{Bool, true, false, _&&_, and-true, and-assoc}
 use mathlib.Core.List.{List, [], _∷_, _++_, append-assoc}
-use native.Mathlib.Decide.{decLe}
+use mathlib.Core.Logic.{inl, inr}
 use native.Mathlib.Numerals.{add-one}
 use native.Mathlib.Omega.{arith}
-use lib.Dec.{eqb, leb, ltb}
+use lib.Dec.{leb, ltb}
+use lib.IntN.{ℤ, pos, _-ℤ_}
 use lib.ListN.{length, drop, take, set, length-append, length-drop, length-take}
 use lib.Seq.{sets-eq, take-at, take-suc, drop-append-add, drop-drop, length-take-le}
-use borrow.Author.Tests.{eq-eqb, ne-eqb, le-ltb, lt-ltb}
+use lib.Signed.{leZ, ltZ}
+use borrow.Author.Tests.{ne-eqb}
+use Rattle.section.specs.Choose.{choose}
 use Rattle.member.specs.PermittedLoad.{permittedLoad}
 use Rattle.rating.specs.VehicleLoad.{vehicleLoadOn}
-use Rattle.rating.specs.Judgement.{verdictOf, permittedFor, passes, everyPasses, least, firstWith, figure, loads, written, ratingOf, judgementOf}
+use Rattle.rating.specs.Judgement.{verdictOf, permittedFor, passes, everyPasses, least, firstThat, figure, margin, leastMargin, governing, loads, written, ratingOf, judgementOf}
 use Rattle.rating.specs.Turn.{both, withMember}
 use Rattle.rating.specs.Surveyed.{memberAt, AllowedSurvey}
 use Rattle.section.specs.declared.KgfPerM.{KgfPerM}
@@ -24,15 +27,18 @@ use Rattle.member.specs.declared.record.Vehicle.{Vehicle}
 use Rattle.rating.specs.declared.judging.Verdict.{Verdict}
 use Rattle.rating.specs.declared.judging.Rating.{Rating}
 use Rattle.rating.specs.declared.judging.Judgement.{Judgement}
-use Rattle.rating.proofs.Places.{least-below, least-had, place-kept, place-added}
+use Rattle.rating.proofs.Governing.{margin-had}
+use Rattle.rating.proofs.Least.{decided, orders-ℕ, orders-ℤ, itself, lesser-is, below-least, least-added}
+use Rattle.rating.proofs.Places.{place-kept, place-added}
 use Rattle.rating.proofs.Surveys.{listed}
 
 -- a rating from its parts
 pub rating-is :
-    (m : Member) (v : Vehicle) {p l : KgfPerM} {w : Verdict} → p .0 ≡ permittedLoad m (v .class) (v .track .0) →
-    l .0 ≡ vehicleLoadOn m v → w ≡ verdictOf (leb (l .0) (p .0)) → _≡_ {A = Rating} (record { permitted = p; load = l; verdict = w }) (ratingOf m v)
+    (m : Member) (v : Vehicle) {p l : KgfPerM} {w : Verdict} {x : ℤ} → p .0 ≡ permittedLoad m (v .class) (v .track .0) →
+    l .0 ≡ vehicleLoadOn m v → w ≡ verdictOf (leb (l .0) (p .0)) → x ≡ pos (p .0) -ℤ pos (l .0) →
+    _≡_ {A = Rating} (record { permitted = p; load = l; verdict = w; margin = x }) (ratingOf m v)
 unfolding ratingOf passes vehicleLoadOn
-rating-is m v hp hl hw = rw (← hp, ← hl, ← hw)
+rating-is m v hp hl hw hx = rw (← hp, ← hl, ← hw, hx)
 
 both-pass : (a b : Bool) → both (verdictOf a) (verdictOf b) ≡ verdictOf (a && b)
 both-pass true b = refl
@@ -44,39 +50,33 @@ module _ (v : Vehicle) (m : Member) where
   every-added [] = and-true (passes v m)
   every-added (n ∷ ms) = rw (every-added ms, and-assoc)
 
-  figure-added : (ms : List Member) → 1 ≤ length ms → figure v (ms ++ m ∷ []) ≡ min (figure v ms) (permittedFor v m)
-  unfolding least
-  figure-added [] l = absurd (omega arith)
-  figure-added (n ∷ []) l = refl
-  figure-added (n ∷ o ∷ ms) l = omega (arith, figure-added (o ∷ ms) (omega arith))
-
-  -- a judgement from its parts
-  judgement-is : (ms : List Member) {f g : ℕ} {w : Verdict} → f ≡ figure v ms → g ≡ firstWith (permittedFor v) f ms → w ≡ verdictOf (everyPasses v ms) →
-      _≡_ {A = Judgement} (record { figure = record { 0 = f }; governing = g; verdict = w }) (judgementOf ms v)
-  unfolding judgementOf
-  judgement-is ms hf hg hw = rw (← hf, ← hg, ← hw)
-
   verdict-added : (ms : List Member) → both (verdictOf (everyPasses v ms)) (verdictOf (passes v m)) ≡ verdictOf (everyPasses v (ms ++ m ∷ []))
   verdict-added ms = rw (every-added ms) (both-pass (everyPasses v ms) (passes v m))
 
   next-first : withMember (judgementOf [] v) (ratingOf m v) 1 ≡ judgementOf (m ∷ []) v
-  unfolding withMember judgementOf ratingOf least firstWith everyPasses
-  next-first = rw (eq-eqb (permittedFor v m) _ refl, and-true)
+  unfolding withMember judgementOf ratingOf least firstThat everyPasses
+  next-first = rw (itself orders-ℤ (margin v m), and-true)
 
-  next-later : (ms : List Member) → 1 ≤ length ms → withMember (judgementOf ms v) (ratingOf m v) (length ms + 1) ≡ judgementOf (ms ++ m ∷ []) v
-  unfolding withMember judgementOf ratingOf
-  next-later ms l =
-      rw (ne-eqb (length ms + 1) 1 (omega arith))
-      (elim (decLe (figure v ms) (permittedFor v m)) [
-        | yes p ↦
-            rw (le-ltb (permittedFor v m) (figure v ms) p)
-            (judgement-is (ms ++ m ∷ []) {f = figure v ms} (omega (arith, figure-added ms l)) (rw (place-kept (permittedFor v) (figure v ms) ms (m ∷ []) (least-had (permittedFor v) ms l))) (verdict-added ms))
-        | no n ↦
-            rw (lt-ltb (permittedFor v m) (figure v ms) (omega arith))
-            (judgement-is (ms ++ m ∷ []) {f = permittedFor v m} (omega (arith, figure-added ms l))
-            (rw (place-added (permittedFor v) (permittedFor v m) ms m (λ k h e. omega (arith, least-below (permittedFor v) ms k h)) refl))
-            (verdict-added ms))
-      ])
+  module _ (ms : List Member) (l : 1 ≤ length ms) where
+    figure-next : choose {X = KgfPerM} (ltb (permittedFor v m) (figure v ms)) (record { 0 = permittedFor v m }) (record { 0 = figure v ms }) ≡ record { 0 = figure v (ms ++ m ∷ []) }
+    figure-next =
+        rw (least-added orders-ℕ 0 (permittedFor v) ms m l, lesser-is orders-ℕ (figure v ms) (permittedFor v m))
+        (elim (decided (ltb (permittedFor v m) (figure v ms))) [ inl e ↦ rw e | inr e ↦ rw e ])
+
+    margin-next : choose (ltZ (margin v m) (leastMargin v ms)) (margin v m) (leastMargin v ms) ≡ leastMargin v (ms ++ m ∷ [])
+    margin-next = sym (least-added orders-ℤ (pos 0) (margin v) ms m l ∙ lesser-is orders-ℤ (leastMargin v ms) (margin v m))
+
+    place-next : choose (ltZ (margin v m) (leastMargin v ms)) (length ms + 1) (governing v ms) ≡ governing v (ms ++ m ∷ [])
+    place-next =
+        rw (← margin-next)
+        (elim (decided (ltZ (margin v m) (leastMargin v ms))) [
+          | inl e ↦ rw (e, place-added (λ n. leZ (margin v n) (margin v m)) ms m (below-least orders-ℤ (pos 0) (margin v) ms (margin v m) e) (itself orders-ℤ (margin v m)))
+          | inr e ↦ rw (e, place-kept (λ n. leZ (margin v n) (leastMargin v ms)) ms (m ∷ []) (margin-had ms v l))
+        ])
+
+    next-later : withMember (judgementOf ms v) (ratingOf m v) (length ms + 1) ≡ judgementOf (ms ++ m ∷ []) v
+    unfolding withMember judgementOf ratingOf
+    next-later = rw (ne-eqb (length ms + 1) 1 (omega arith), figure-next, place-next, margin-next, verdict-added ms)
 
   pub judgement-next : (ms : List Member) → withMember (judgementOf ms v) (ratingOf m v) (length ms + 1) ≡ judgementOf (ms ++ m ∷ []) v
   judgement-next [] = next-first

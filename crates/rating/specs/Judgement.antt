@@ -1,9 +1,12 @@
--- A member's rating and the bridge's judgement. Document 01, 'Judgement', and of 'Calls' what rate and judge give.
-use Prim.Native.Nat.{ℕ, _+_, _*_, min}
+-- A member's rating and the bridge's judgement. Document 01, 'Judgement', and of 'Calls' what rate and judge give; margins and the governing
+-- member from document 02, request 6/13.
+use Prim.Native.Nat.{ℕ, _+_, _*_}
 use mathlib.Core.Bool.{Bool, true, false, _&&_}
 use mathlib.Core.List.{List, [], _∷_, _++_}
-use lib.Dec.{eqb, leb}
+use lib.Dec.{leb}
+use lib.IntN.{ℤ, pos, _-ℤ_}
 use lib.ListN.{length, drop}
+use lib.Signed.{leZ}
 use Rattle.section.specs.Choose.{choose}
 use Rattle.member.specs.PermittedLoad.{permittedLoad}
 use Rattle.rating.specs.VehicleLoad.{vehicleLoadOn}
@@ -19,16 +22,21 @@ abbrev pub verdictOf : (passes : Bool) → Verdict
 verdictOf true = Pass
 verdictOf false = Refuse
 
--- the least that f gives over the members, 0 where there are none
-unfoldable pub least : (f : Member → ℕ) → List Member → ℕ
-least f [] = 0
-least f (m ∷ []) = f m
-least f (m ∷ n ∷ ms) = min (f m) (least f (n ∷ ms))
+-- The least that f gives over the members, by a test of at most: of permitted loads, and of margins, which may be negative. Where there are
+-- no members it is none.
+module _ {A : Type 0} (atMost : A → A → Bool) where
+  abbrev pub lesser : A → A → A
+  lesser a b = choose (atMost a b) a b
 
--- the place of the first member of which f gives x, one more than the members before it: "Places start at 1."
-unfoldable pub firstWith : (f : Member → ℕ) (x : ℕ) → List Member → ℕ
-firstWith f x [] = 0
-firstWith f x (m ∷ ms) = choose (eqb (f m) x) 1 (1 + firstWith f x ms)
+  unfoldable pub least : (none : A) (f : Member → A) → List Member → A
+  least none f [] = none
+  least none f (m ∷ []) = f m
+  least none f (m ∷ n ∷ ms) = lesser (f m) (least none f (n ∷ ms))
+
+-- the place of the first member that is so, one more than the members before it: "Places start at 1."
+unfoldable pub firstThat : (isSo : Member → Bool) → List Member → ℕ
+firstThat isSo [] = 0
+firstThat isSo (m ∷ ms) = choose (isSo m) 1 (1 + firstThat isSo ms)
 
 module _ (v : Vehicle) where
   -- the permitted load of a member for the vehicle
@@ -44,13 +52,20 @@ module _ (v : Vehicle) where
   everyPasses [] = true
   everyPasses (m ∷ ms) = passes m && everyPasses ms
 
-  -- "The bridge's figure is the least permitted load"
+  -- "The bridge's figure is the least permitted load"; "The bridge's figure remains the least permitted load."
   abbrev pub figure : List Member → ℕ
-  figure ms = least permittedFor ms
+  figure ms = least leb 0 permittedFor ms
 
-  -- "and the member that has it governs, the first by place on a tie"
+  -- "A member's margin is its permitted load minus its vehicle load, and it may be negative."
+  abbrev pub margin : Member → ℤ
+  margin m = pos (permittedFor m) -ℤ pos (vehicleLoadOn m v)
+
+  abbrev pub leastMargin : List Member → ℤ
+  leastMargin ms = least leZ (pos 0) margin ms
+
+  -- "The governing member becomes the one with the least margin, the first on a tie"
   abbrev pub governing : List Member → ℕ
-  governing ms = firstWith permittedFor (figure ms) ms
+  governing ms = firstThat (λ m. leZ (margin m) (leastMargin ms)) ms
 
   -- "fills a lent list of u64 with permitted load and vehicle load, two numbers a member; entries beyond are kept"
   unfoldable pub loads : List Member → List ℕ
@@ -60,12 +75,22 @@ module _ (v : Vehicle) where
   unfoldable pub written : List Member → List ℕ → List ℕ
   written ms list = loads ms ++ drop (2 * length ms) list
 
--- "Rate gives the member's two loads and pass or refuse."
+-- "Rate gives the member's two loads and pass or refuse." "each answer record gains that signed margin: rate's the member's own"
 unfoldable pub ratingOf : Member → Vehicle → Rating
 ratingOf m v =
-    record { permitted = record { 0 = permittedFor v m }; load = record { 0 = vehicleLoadOn m v }; verdict = verdictOf (passes v m) }
+    record {
+      permitted = record { 0 = permittedFor v m };
+      load = record { 0 = vehicleLoadOn m v };
+      verdict = verdictOf (passes v m);
+      margin = margin v m;
+    }
 
--- "Judge gives figure, governing place and verdict"
+-- "Judge gives figure, governing place and verdict", and the margin: "judge's and the yard's the governing member's"
 unfoldable pub judgementOf : List Member → Vehicle → Judgement
 judgementOf ms v =
-    record { figure = record { 0 = figure v ms }; governing = governing v ms; verdict = verdictOf (everyPasses v ms) }
+    record {
+      figure = record { 0 = figure v ms };
+      governing = governing v ms;
+      verdict = verdictOf (everyPasses v ms);
+      margin = leastMargin v ms;
+    }

@@ -2,6 +2,7 @@
 use Prim.Native.Nat.{ℕ}
 use mathlib.Core.Bool.{Bool, _||_}
 use lib.Dec.{eqb, ltb}
+use lib.Signed.{ltZ}
 use Rattle.section.specs.Choose.{choose}
 use Rattle.rating.specs.declared.judging.Verdict.{Verdict}
 use Rattle.rating.specs.declared.judging.Verdict.the-variants.{Pass, Refuse}
@@ -12,15 +13,16 @@ abbrev pub both : Verdict → Verdict → Verdict
 both Pass w = w
 both Refuse w = Refuse
 
--- the first member's permitted load is the figure so far, then each that is less
-abbrev pub lower : Judgement → Rating → (place : ℕ) → Bool
-lower j r place = eqb place 1 || ltb (r .permitted .0) (j .figure .0)
+-- the first member's number is the least so far, then each that is less
+abbrev pub replaces : {A : Type 0} (less : A → A → Bool) (place : ℕ) (own sofar : A) → Bool
+replaces less place own sofar = eqb place 1 || less own sofar
 
 -- the judgement of the members so far and one more, at this place
 unfoldable pub withMember : Judgement → Rating → (place : ℕ) → Judgement
 withMember j r place =
     record {
-      figure = choose (lower j r place) (r .permitted) (j .figure);
-      governing = choose (lower j r place) place (j .governing);
+      figure = choose (replaces ltb place (r .permitted .0) (j .figure .0)) (r .permitted) (j .figure);
+      governing = choose (replaces ltZ place (r .margin) (j .margin)) place (j .governing);
       verdict = both (j .verdict) (r .verdict);
+      margin = choose (replaces ltZ place (r .margin) (j .margin)) (r .margin) (j .margin);
     }

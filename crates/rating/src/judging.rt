@@ -1,8 +1,11 @@
 // A member's rating, and the judgement of a bridge from the ratings of its members.
 ghost use mathlib.Core.Path.{_≡_};
-ghost use Prim.Native.Nat.{_+_, _*_, _≤_, _<_};
+ghost use mathlib.Core.Bool.{_||_};
+ghost use Prim.Native.Nat.{_+_, _*_, _^_, _≤_, _<_};
 ghost use lib.ListN.{length};
-ghost use lib.Dec.{leb};
+ghost use lib.Dec.{leb, ltb};
+ghost use lib.IntN.{pos, _-ℤ_};
+ghost use Rattle.section.specs.Choose.{choose};
 ghost use Rattle.member.specs.Format.{AllowedMember, AllowedVehicle};
 ghost use Rattle.rating.specs.Surveyed.{membersOf, AllowedSurvey};
 ghost use Rattle.rating.specs.Judgement.{verdictOf, ratingOf, judgementOf, written};
@@ -22,13 +25,17 @@ pub struct Rating {
     pub permitted: KgfPerM,
     pub load: KgfPerM,
     pub verdict: Verdict,
+    // The permitted load less the vehicle load, in kgf/m.
+    pub margin: i64,
 }
 
-// What judge gives of a bridge: the least permitted load, the place of the member that governs, and the verdict.
+// What judge gives of a bridge: the least permitted load, the place of the member that governs, which has the least margin, the verdict,
+// and that margin.
 pub struct Judgement {
     pub figure: KgfPerM,
     pub governing: u64,
     pub verdict: Verdict,
+    pub margin: i64,
 }
 
 // A vehicle load at most the permitted load passes.
@@ -42,6 +49,14 @@ fn verdict_of(load: KgfPerM, permitted: KgfPerM) -> Verdict
     }
 }
 
+// The margin, below 0 where the vehicle load is above the permitted load.
+fn margin_of(permitted: KgfPerM, load: KgfPerM) -> i64
+    requires { ⌜ (permitted .0 < 2 ^ 63) × (load .0 < 2 ^ 63) ⌝ }
+    ensures { λ r. ⌜ r ≡ pos (permitted .0) -ℤ pos (load .0) ⌝ }
+{
+    permitted.0 as i64 - load.0 as i64
+}
+
 // The rating of a member for a vehicle.
 pub fn rate(m: Member, v: Vehicle) -> Rating
     requires { ⌜ AllowedMember m × AllowedVehicle v ⌝ }
@@ -51,10 +66,12 @@ pub fn rate(m: Member, v: Vehicle) -> Rating
     let permitted = permitted_load(m, v.class, track);
     let load = vehicle_load_on(m, v);
     let verdict = verdict_of(load, permitted);
+    let margin = margin_of(permitted, load);
     Rating {
         permitted,
         load,
         verdict,
+        margin,
     }
 }
 
@@ -68,6 +85,14 @@ fn both(a: Verdict, b: Verdict) -> Verdict
     }
 }
 
+// The lesser of the figure so far and one more permitted load; the first member's stands for itself.
+fn figure_with(first: bool, permitted: KgfPerM, figure: KgfPerM) -> KgfPerM
+    ensures { λ r. ⌜ r ≡ choose (first || ltb (permitted .0) (figure .0)) permitted figure ⌝ }
+{
+    let lower = permitted.0 < figure.0;
+    if first | lower { permitted } else { figure }
+}
+
 // The judgement of the members so far and one more. A tie leaves the earlier member governing.
 fn with_member(j: Judgement, r: Rating, place: u64) -> Judgement
     ensures { λ k. ⌜ k ≡ withMember j r place ⌝ }
@@ -76,20 +101,25 @@ fn with_member(j: Judgement, r: Rating, place: u64) -> Judgement
     let own = r.verdict;
     let verdict = both(before, own);
     let first = place == 1;
-    let lower = r.permitted.0 < j.figure.0;
-    if first | lower {
-        let figure = r.permitted;
+    let permitted = r.permitted;
+    let sofar = j.figure;
+    let figure = figure_with(first, permitted, sofar);
+    let margin = r.margin;
+    let least = j.margin;
+    let less = margin < least;
+    if first | less {
         Judgement {
             figure,
             governing: place,
             verdict,
+            margin,
         }
     } else {
-        let figure = j.figure;
         Judgement {
             figure,
             governing: j.governing,
             verdict,
+            margin: least,
         }
     }
 }
@@ -106,6 +136,7 @@ pub fn judge(s: Survey, v: Vehicle, list: &mut [u64]) -> Judgement
         figure: KgfPerM(0),
         governing: 0,
         verdict: Verdict::Pass,
+        margin: 0,
     };
     let mut i = 0;
     while i < count {

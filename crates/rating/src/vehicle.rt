@@ -1,6 +1,6 @@
 // The load that a vehicle's axles put on a member, over the member's influence line.
 ghost use mathlib.Core.Path.{_≡_};
-ghost use Prim.Native.Nat.{_*_, _≤_};
+ghost use Prim.Native.Nat.{_*_, _^_, _≤_, _<_};
 ghost use Rattle.member.specs.Format.{AllowedMember, AllowedVehicle};
 ghost use Rattle.rating.specs.VehicleLoad.{influenceLine, vehicleLoadOn};
 use influence::HalfCm;
@@ -46,7 +46,8 @@ fn apex_of(m: Member) -> HalfCm
 // The vehicle load on a member: the greatest that any position gives, rounded up once.
 pub fn vehicle_load_on(m: Member, v: Vehicle) -> KgfPerM
     requires { ⌜ AllowedMember m × AllowedVehicle v ⌝ }
-    ensures { λ r. ⌜ r .0 ≡ vehicleLoadOn m v ⌝ }
+    ensures is { λ r. ⌜ r .0 ≡ vehicleLoadOn m v ⌝ }
+    ensures cap { λ r. ⌜ r .0 < 2 ^ 63 ⌝ }
 {
     let weights = v.weights;
     let distances = v.distances;

@@ -5,7 +5,7 @@ use mathlib.Core.Path.{_≡_, refl}
 use native.Mathlib.Omega.{arith}
 use lib.ListN.{length, take, length-set}
 use borrow.Author.Needs.{needs}
-use Rattle.rating.specs.Judgement.{everyPasses, least, firstWith, loads, written, judgementOf}
+use Rattle.rating.specs.Judgement.{everyPasses, least, firstThat, loads, written, judgementOf}
 use Rattle.rating.proofs.Turns.{turn-judged, turn-written, list-length}
 use Rattle.rating.proofs.judging.judge.Statement.{statement}
 use Rattle.rating.proofs.judging.judge.Tie as tie
@@ -25,7 +25,7 @@ few : (c : tie.In-loop Inv-loop μ-loop) → c .before .loop .i < 64
 few c = omega (arith, c .before .before .before .pre .0 .count)
 
 loop-holds : tie.Need-loop-holds Inv-loop μ-loop
-unfolding judgementOf least firstWith everyPasses written loads
+unfolding judgementOf least firstThat everyPasses written loads
 loop-holds c = (omega arith, refl, refl)
 
 mul-m : tie.Need-mul-m Inv-loop μ-loop

@@ -1,5 +1,8 @@
--- `rating::judging::with_member` meets its contract: the branch is the definition's test.
+-- `rating::judging::with_member` meets its contract: the branch is the definition's test. A margin is held as bits, and what they are read as
+-- is the margin, since it fits them.
 -- Assumes nothing.
+use mir.Facts.{toZ-ofZ}
+use mir.Syntax.{w64}
 use Rattle.rating.specs.Turn.{withMember}
 use borrow.Author.Needs.{needs}
 use Rattle.rating.proofs.judging.with_member.Statement.{statement}
@@ -8,13 +11,24 @@ use Rattle.rating.proofs.judging.with_member.Tie as tie
 both-requires : tie.Need-both-requires
 both-requires c κs = search needs
 
+figure-with-requires : tie.Need-figure-with-requires
+figure-with-requires c κs = search needs
+
 returns : tie.Need-returns
 unfolding withMember
-returns c = rw (c .before .if1 .taken, c .before .before .before .before .both .ensures)
+returns c =
+    let called = c .before .before .before in
+    let own = toZ-ofZ {w = w64} {z = called .before .before .before .before .args .r .margin} (record { sfits = c .before .before .struct-told .given .1 .1 .1 .0 .1 }) in
+    let sofar = toZ-ofZ {w = w64} {z = called .before .before .before .before .args .j .margin} (record { sfits = c .before .struct-told2 .given .1 .1 .1 .0 .1 }) in
+    rw (own, rw (own, sofar) at (c .if1 .taken), called .figure-with .ensures, called .before .before .before .both .ensures)
 
 returns-2 : tie.Need-returns-2
 unfolding withMember
-returns-2 c = rw (c .before .if1 .left, c .before .before .before .before .both .ensures)
+returns-2 c =
+    let called = c .before .before .before in
+    let own = toZ-ofZ {w = w64} {z = called .before .before .before .before .args .r .margin} (record { sfits = c .before .before .struct-told .given .1 .1 .1 .0 .1 }) in
+    let sofar = toZ-ofZ {w = w64} {z = called .before .before .before .before .args .j .margin} (record { sfits = c .before .struct-told2 .given .1 .1 .1 .0 .1 }) in
+    rw (sofar, rw (own, sofar) at (c .if1 .left), called .figure-with .ensures, called .before .before .before .both .ensures)
 
 pub with-member-spec : {M : Type 1} → statement M
-with-member-spec = tie.close (tie.spec both-requires returns returns-2)
+with-member-spec = tie.close (tie.spec both-requires figure-with-requires returns returns-2)

@@ -19,7 +19,7 @@ vehicle-load-requires c κs =
 
 returns : tie.Need-returns
 unfolding vehicleLoadOn
-returns c = rw (c .before .before .base-of .ensures, c .before .apex-of .ensures) at (c .vehicle-load .ensures)
+returns c = (rw (c .before .before .base-of .ensures, c .before .apex-of .ensures) at (c .vehicle-load .ensures .0), c .vehicle-load .ensures .1)
 
 pub vehicle-load-on-spec : {M : Type 1} → statement M
 vehicle-load-on-spec =
