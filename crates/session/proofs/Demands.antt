@@ -7,6 +7,7 @@ use mathlib.Core.List.{List, [], _∷_}
 use mathlib.Core.Logic.{_⊎_, inl, inr, ⊎-elim}
 use native.Mathlib.Omega.{arith}
 use lib.Dec.{eqb, leb}
+use lib.IntN.{ℤ}
 use lib.ListN.{length}
 use borrow.Author.Tests.{ne-eqb, eqb-false, lt-leb}
 use Rattle.section.specs.Choose.{choose}
@@ -26,7 +27,7 @@ use Rattle.member.specs.declared.record.Vehicle.{Vehicle}
 use Rattle.member.proofs.Falling.{permitted-load-exact}
 use Rattle.rating.proofs.Judged.{vehicle-load-rises, permitted-falls, member-stays-refused, figure-falls, bridge-stays-refused, same-places}
 use Rattle.rating.proofs.Lines.{line-sized, vehicle-load-covers, vehicle-load-rounded-up}
-use Rattle.rating.proofs.Places.{figure-least, governing-first}
+use Rattle.rating.proofs.Governing.{figure-least, figure-had, governing-within, governing-margin, governing-least, governing-first, margin-difference, rating-decides, judgement-decides}
 use Rattle.rating.proofs.Surveys.{members-counted, members-allowed}
 use Rattle.files.specs.Allowed.{AllowedSurveyFile, AllowedVehicleFile}
 use Rattle.files.specs.Refused.{SurveyRefusal, VehicleRefusal}
@@ -41,7 +42,7 @@ use Rattle.files.proofs.Vehicles as vehicles
 use Rattle.between.specs.Fault.{no-vehicle}
 use Rattle.between.proofs.Pairs.{taken-survey-allowed, survey-members}
 use Rattle.between.proofs.Within.{record-at, counted}
-use Rattle.session.specs.Answers.{Outcome, Values, RefusedAt, refusedBy, judgementValues}
+use Rattle.session.specs.Answers.{Outcome, Values, WithMargin, RefusedAt, refusedBy, judgementAnswer}
 use Rattle.session.specs.Calls.{newSession, members, stateFault, rateFault, judgeFault, loadSurvey, loadVehicle, storedSurvey, storedVehicle, unlessFault, rate, judge, judgeList, loadFiles, thenJudge, judgeFiles}
 use Rattle.session.specs.Demands.{Demand1, Demand2, Demand3}
 use Rattle.session.specs.Parts.{FromState, RefusedBoth, Answers, FilesAnswered, Covers, Falls}
@@ -49,17 +50,17 @@ use Rattle.session.specs.History.{Holds, after}
 use Rattle.session.specs.YardCall.{no-survey}
 use Rattle.session.specs.declared.Session.{Session}
 use Rattle.session.proofs.History.{survey-stays, vehicle-stays, survey-last, last-held, in-turn, in-reverse, calls-valid}
-use Rattle.session.proofs.Loads.{never-both, survey-read, vehicle-read, survey-load, vehicle-load, survey-refused, vehicle-refused, other-survey}
+use Rattle.session.proofs.Loads.{no-refusal, never-both, survey-read, vehicle-read, survey-load, vehicle-load, survey-refused, vehicle-refused, other-survey}
 use Rattle.session.proofs.State.{valid-new, judge-ready, all-answers}
 use Rattle.session.proofs.ReadingsLaws.{between-answered, between-taken, between-bounds}
 use Rattle.session.proofs.YardLaws.{yard-answered, yard-taken}
 
 -- a fault is an answer from the state, or there is none
-fault-answer : (numbers : ℕ → Type 0) (n : ℕ) (values : List ℕ) → (n ≡ 0) ⊎ numbers n → FromState numbers (unlessFault n values)
-fault-answer numbers n values h = go (eqb n 0) refl h
+fault-answer : (numbers : ℕ → Type 0) (n : ℕ) (values : List ℕ) (margin : ℤ) → (n ≡ 0) ⊎ numbers n → FromState numbers (unlessFault n (WithMargin values margin))
+fault-answer numbers n values margin h = go (eqb n 0) refl h
   where
-    go : (b : Bool) → eqb n 0 ≡ b → (n ≡ 0) ⊎ numbers n → FromState numbers (choose b (Values values) (RefusedAt n 0))
-    go true e h = inl (values, refl)
+    go : (b : Bool) → eqb n 0 ≡ b → (n ≡ 0) ⊎ numbers n → FromState numbers (choose b (WithMargin values margin) (RefusedAt n 0))
+    go true e h = inl (values, margin, refl)
     go false e (inl z) = absurd (eqb-false n 0 e z)
     go false e (inr h) = inr (n, h, refl)
 
@@ -91,9 +92,9 @@ list-untouched : (s : Session) (list : List ℕ) (n p : ℕ) → judge s list .a
 unfolding judge judgeList
 list-untouched s list n p = go (eqb (judgeFault (s .survey .count) (s .vehicle .axles) (length list)) 0)
   where
-    go : (b : Bool) → choose b (Values (judgementValues (judgementOf (members s) (s .vehicle)))) (RefusedAt (judgeFault (s .survey .count) (s .vehicle .axles) (length list)) 0) ≡ RefusedAt n p →
+    go : (b : Bool) → choose b (judgementAnswer (judgementOf (members s) (s .vehicle))) (RefusedAt (judgeFault (s .survey .count) (s .vehicle .axles) (length list)) 0) ≡ RefusedAt n p →
         choose b (written (s .vehicle) (members s) list) list ≡ list
-    go true e = never-both _ n p e
+    go true e = no-refusal _ n p refl e
     go false e = refl
 
 -- a survey that was taken has members
@@ -127,8 +128,8 @@ demand1 =
           (λ r e. inr (r, refl, vehicles.refused-named bytes r e));
       survey-named = λ s bytes r h. survey-refused s bytes r (surveys.named-refused bytes r h);
       vehicle-named = λ s bytes r h. vehicle-refused s bytes r (vehicles.named-refused bytes r h);
-      rate-answered = λ s place. fault-answer (In (11 ‥ 13)) _ _ (rate-number (s .survey .count) (s .vehicle .axles) place);
-      judge-answered = λ s list. fault-answer (λ n. (In (11 ‥ 12) n) ⊎ (n ≡ 14)) _ _ (judge-number (s .survey .count) (s .vehicle .axles) (length list));
+      rate-answered = λ s place. fault-answer (In (11 ‥ 13)) _ _ _ (rate-number (s .survey .count) (s .vehicle .axles) place);
+      judge-answered = λ s list. fault-answer (λ n. (In (11 ‥ 12) n) ⊎ (n ≡ 14)) _ _ _ (judge-number (s .survey .count) (s .vehicle .axles) (length list));
       no-survey = λ calls h. none-refused (after newSession calls) (rw (survey-stays newSession calls h));
       no-vehicle = λ calls survey h n.
           half-refused (after newSession calls) (rw (survey-last survey h .1) (taken-loaded survey (survey-last survey h .0))) (rw (vehicle-stays newSession calls n));
@@ -153,7 +154,7 @@ demand1 =
     }
 
 files-answer : (survey vehicle : List ℕ) → AllowedSurveyFile survey → AllowedVehicleFile vehicle →
-    judgeFiles survey vehicle .answer ≡ Values (judgementValues (judgementOf (members (record { survey = surveyOf survey; vehicle = vehicleOf vehicle })) (vehicleOf vehicle)))
+    judgeFiles survey vehicle .answer ≡ judgementAnswer (judgementOf (members (record { survey = surveyOf survey; vehicle = vehicleOf vehicle })) (vehicleOf vehicle))
 unfolding loadFiles judgeFiles thenJudge judge
 files-answer survey vehicle a b =
     let e = surveys.allowed-taken survey a in
@@ -175,13 +176,16 @@ demand2 =
       vehicle-held = λ s bytes a. ap (λ (o : Outcome). o .session) (vehicle-load s bytes (vehicles.allowed-taken bytes a));
       answers = all-answers;
       governs = λ ms v h.
-          let first = governing-first v ms h in
           record {
-            least = figure-least v ms;
-            within = (first .low, first .high);
-            has = first .gives;
-            first = first .before;
+            figure-least = figure-least ms v;
+            figure-had = figure-had ms v h;
+            within = governing-within ms v h;
+            has = sym (governing-margin ms v h);
+            least = governing-least ms v h;
+            first = governing-first ms v h;
+            decides = judgement-decides ms v h;
           };
+      margins = λ m v. record { difference = margin-difference m v; decides = rating-decides m v };
       files-judged = files-answer;
       yard-judged = yard-taken;
       between-judged = between-taken;

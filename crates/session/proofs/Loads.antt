@@ -1,7 +1,7 @@
 -- A load by its answer: a file that is taken is what the session then holds, and a refused one changes nothing.
 -- Assumes nothing.
 use Prim.Native.Nat.{ℕ}
-use mathlib.Core.Path.{_≡_, refl, sym, ap}
+use mathlib.Core.Path.{_≡_, refl, sym, ap, _∙_}
 use mathlib.Core.Bool.{Bool, true, false}
 use mathlib.Core.List.{List, []}
 use Rattle.files.specs.SurveyFile.{readSurvey, surveyOf}
@@ -11,17 +11,21 @@ use Rattle.files.specs.declared.Refusal.{Refusal}
 use Rattle.files.proofs.Faults.{reading-case}
 use Rattle.files.proofs.Surveys as surveys
 use Rattle.files.proofs.Vehicles as vehicles
-use Rattle.session.specs.Answers.{Answer, Values, RefusedAt, refusedBy}
+use Rattle.session.specs.Answers.{Answer, Values, WithMargin, RefusedAt, refusedBy}
 use Rattle.session.specs.Calls.{loadSurvey, loadVehicle, storedSurvey, storedVehicle}
 use Rattle.session.specs.declared.Session.{Session}
 
 -- two answers are never both
-abbrev isRefusal : Answer → Bool
+abbrev pub isRefusal : Answer → Bool
 isRefusal (Values values) = false
+isRefusal (WithMargin values margin) = false
 isRefusal (RefusedAt n p) = true
 
+pub no-refusal : {X : Type 0} (a : Answer) (n p : ℕ) → isRefusal a ≡ false → a ≡ RefusedAt n p → X
+no-refusal a n p f e = absurd (mathlib.Core.Bool.false≢true (sym f ∙ ap isRefusal e))
+
 pub never-both : {X : Type 0} (values : List ℕ) (n p : ℕ) → Values values ≡ RefusedAt n p → X
-never-both values n p e = absurd (mathlib.Core.Bool.false≢true (ap isRefusal e))
+never-both values n p = no-refusal (Values values) n p refl
 
 -- a load that takes its file, by its answer
 module _ (s : Session) (bytes : List ℕ) where

@@ -22,10 +22,10 @@ use Rattle.files.proofs.Tests.{in-range, range-in, refutes}
 use Rattle.files.proofs.Faults.{reading-case}
 use Rattle.files.proofs.Vehicles as vehicles
 use Rattle.files.proofs.Yards.{AllowedTo, length-files, files-joined, joined-files, joined-left}
-use Rattle.session.specs.Answers.{Answer, Outcome, Values, RefusedAt, refusedBy, valuesOf, judgementValues}
+use Rattle.session.specs.Answers.{Answer, Outcome, Values, RefusedAt, refusedBy, valuesOf, judgementAnswer}
 use Rattle.session.specs.Calls.{Valid, members, loadVehicle, judge, thenJudge, unlessRefused}
-use Rattle.session.specs.Yard.{Entry, alone, vehicleAnswers, yardEntries, passing, firstRefusal, frontTests, yardAnswered, judgeYard, yardList}
-use Rattle.session.specs.YardCall.{fileAt, GoodBefore, Counted, YardFault, no-survey, no-count, wrong-count, faulty-vehicle, bytes-left, short-list, Passing, YardAnswered, YardFigures, YardTaken}
+use Rattle.session.specs.Yard.{Entry, alone, vehicleAnswers, passing, firstRefusal, frontTests, yardAnswered, judgeYard, yardList}
+use Rattle.session.specs.YardCall.{fileAt, entryAt, GoodBefore, Counted, YardFault, no-survey, no-count, wrong-count, faulty-vehicle, bytes-left, short-list, Passing, YardAnswered, YardFigures, YardTaken}
 use Rattle.session.specs.declared.Session.{Session}
 use Rattle.session.proofs.Loads.{never-both, vehicle-load, vehicle-refused}
 use Rattle.session.proofs.State.{all-answers, few-members}
@@ -46,11 +46,11 @@ module _ (s : Session) (file : List ℕ) where
   loaded a = vehicle-load s file (vehicles.allowed-taken file a)
 
   judged : 0 < s .survey .count → AllowedVehicleFile file → (lent : List ℕ) → 2 * s .survey .count ≤ length lent →
-      judge (loadVehicle s file .session) lent .answer ≡ Values (judgementValues (judgementOf (members s) (vehicleOf file)))
+      judge (loadVehicle s file .session) lent .answer ≡ judgementAnswer (judgementOf (members s) (vehicleOf file))
   judged h a lent l =
       ap (λ (o : Outcome). judge (o .session) lent .answer) (loaded a) ∙ all-answers with h (a .vehicle .axles .0) .judged lent l
 
-  alone-values : Valid s → 0 < s .survey .count → AllowedVehicleFile file → alone s file ≡ Values (judgementValues (judgementOf (members s) (vehicleOf file)))
+  alone-values : Valid s → 0 < s .survey .count → AllowedVehicleFile file → alone s file ≡ judgementAnswer (judgementOf (members s) (vehicleOf file))
   unfolding alone thenJudge
   alone-values v h a =
       ap (λ (o : Outcome). thenJudge o .answer) (loaded a) ∙ all-answers with h (a .vehicle .axles .0) .judged (replicate (2 * MOST-MEMBERS) 0) (omega (arith, few-members s v))
@@ -135,7 +135,7 @@ module _ (s : Session) (v : Valid s) (yard : List ℕ) (room : ℕ) where
     none-over : leftOver yard ≡ []
     fits : vehiclesOf yard ≤ room
 
-  taken : Good → yardAnswered s yard room ≡ Values (passing (yardEntries s yard) ∷ [])
+  taken : Good → yardAnswered s yard room ≡ Values (passing (vehicleAnswers s yard) ∷ [])
   taken g =
       tests.not-refused s yard room (front-0 (g .counted)) (good-files (g .counted) (g .files)) (rw (g .none-over, le-leb (vehiclesOf yard) room (g .fits)))
 
@@ -211,40 +211,39 @@ module _ (s : Session) (v : Valid s) (yard : List ℕ) where
         ⊎-elim (λ f. never-both (n ∷ []) (f .0) (f .1) (sym e ∙ named s v yard (length list) (f .0) (f .1) (f .2))) (λ g. g) (fault-or-good s v yard (length list))
 
     -- what is then written
-    written : Good s v yard (length list) → yardList s yard list ≡ yardEntries s yard ++ drop (vehiclesOf yard) list
+    written : Good s v yard (length list) → yardList s yard list ≡ vehicleAnswers s yard ++ drop (vehiclesOf yard) list
     unfolding yardList
     written g = rw (taken s v yard (length list) g)
 
-    as-many : length (yardEntries s yard) ≡ vehiclesOf yard
-    as-many =
-        length-map (vehicleAnswers s yard) valuesOf ∙ length-map (vehicleFiles yard) (alone s) ∙ counted-files s v yard (length list)
+    as-many : length (vehicleAnswers s yard) ≡ vehiclesOf yard
+    as-many = length-map (vehicleFiles yard) (alone s) ∙ counted-files s v yard (length list)
 
     module _ (n : ℕ) (e : Passing s yard list n) where
       abbrev g : Good s v yard (length list)
       g = judged-good n e
 
-      entry : (i : ℕ) → i < vehiclesOf yard → getD (yardList s yard list) i [] ≡ judgementValues (judgementOf (members s) (vehicleOf (fileAt yard i)))
+      entry : (i : ℕ) → i < vehiclesOf yard → entryAt (yardList s yard list) i ≡ judgementAnswer (judgementOf (members s) (vehicleOf (fileAt yard i)))
       entry i l =
-          ap (λ (m : List Entry). getD m i []) (written g) ∙ List·getD-append (yardEntries s yard) (drop (vehiclesOf yard) list) [] i (omega (arith, as-many)) ∙ getD-mapped valuesOf (vehicleAnswers s yard) i [] (Values []) (omega (arith, as-many, length-map (vehicleAnswers s yard) valuesOf)) ∙ ap valuesOf (getD-mapped (alone s) (vehicleFiles yard) i (Values []) [] (omega (arith, counted-files s v yard (length list))) ∙ alone-values s (fileAt yard i) v (g .counted .survey) (g .files i l))
+          ap (λ (m : List Entry). entryAt m i) (written g) ∙ List·getD-append (vehicleAnswers s yard) (drop (vehiclesOf yard) list) (Values []) i (omega (arith, as-many)) ∙ getD-mapped (alone s) (vehicleFiles yard) i (Values []) [] (omega (arith, counted-files s v yard (length list))) ∙ alone-values s (fileAt yard i) v (g .counted .survey) (g .files i l)
 
-      past : (i : ℕ) → vehiclesOf yard ≤ i → getD (yardEntries s yard ++ drop (vehiclesOf yard) list) i [] ≡ getD list i []
+      past : (i : ℕ) → vehiclesOf yard ≤ i → entryAt (vehicleAnswers s yard ++ drop (vehiclesOf yard) list) i ≡ entryAt list i
       past i l =
-          let first : length (yardEntries s yard) + (i - vehiclesOf yard) ≡ i = omega (arith, as-many) in
+          let first : length (vehicleAnswers s yard) + (i - vehiclesOf yard) ≡ i = omega (arith, as-many) in
           let second : vehiclesOf yard + (i - vehiclesOf yard) ≡ i = omega arith in
-          ap (λ (k : ℕ). getD (yardEntries s yard ++ drop (vehiclesOf yard) list) k []) (sym first) ∙ getD-append-add (yardEntries s yard) (drop (vehiclesOf yard) list) (i - vehiclesOf yard) [] ∙ getD-drop (vehiclesOf yard) list (i - vehiclesOf yard) [] ∙ ap (λ (k : ℕ). getD list k []) second
+          ap (entryAt (vehicleAnswers s yard ++ drop (vehiclesOf yard) list)) (sym first) ∙ getD-append-add (vehicleAnswers s yard) (drop (vehiclesOf yard) list) (i - vehiclesOf yard) (Values []) ∙ getD-drop (vehiclesOf yard) list (i - vehiclesOf yard) (Values []) ∙ ap (entryAt list) second
 
       figures : YardFigures s yard list n
       unfolding judgeYard
       figures =
           record {
             loaded = λ i l. ap (λ (o : Outcome). o .answer) (loaded s (fileAt yard i) (g .files i l));
-            judged = λ i l lent r. judged s (fileAt yard i) (g .counted .survey) (g .files i l) lent r ∙ ap Values (sym (entry i l));
+            judged = λ i l lent r. judged s (fileAt yard i) (g .counted .survey) (g .files i l) lent r ∙ sym (entry i l);
             figures = entry;
             passes =
-                ap (λ (a : Answer). getD (valuesOf a) 0 0) (sym e ∙ taken s v yard (length list) g) ∙ ap passing (sym (ap (take (vehiclesOf yard)) (written g) ∙ take-at (yardEntries s yard) (drop (vehiclesOf yard) list) (vehiclesOf yard) as-many));
-            beyond = λ i l. ap (λ (m : List Entry). getD m i []) (written g) ∙ past i l;
+                ap (λ (a : Answer). getD (valuesOf a) 0 0) (sym e ∙ taken s v yard (length list) g) ∙ ap passing (sym (ap (take (vehiclesOf yard)) (written g) ∙ take-at (vehicleAnswers s yard) (drop (vehiclesOf yard) list) (vehiclesOf yard) as-many));
+            beyond = λ i l. ap (λ (m : List Entry). entryAt m i) (written g) ∙ past i l;
             length-kept =
-                ap length (written g) ∙ omega (arith, length-append (yardEntries s yard) (drop (vehiclesOf yard) list), length-drop (vehiclesOf yard) list, as-many, g .fits);
+                ap length (written g) ∙ omega (arith, length-append (vehicleAnswers s yard) (drop (vehiclesOf yard) list), length-drop (vehiclesOf yard) list, as-many, g .fits);
           }
 
 -- what is claimed, of every valid session, all bytes and every list

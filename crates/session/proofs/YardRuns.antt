@@ -14,10 +14,10 @@ use Rattle.files.proofs.Yards.{take-most, drop-most, one-more-file, left-after-
 use Rattle.rating.specs.declared.judging.Judgement.{Judgement}
 use Rattle.rating.specs.declared.judging.Verdict.{Verdict}
 use Rattle.rating.specs.declared.judging.Verdict.the-variants.{Pass, Refuse}
-use Rattle.session.specs.Answers.{Answer, Values, RefusedAt, loadAnswer, judgeAnswer, valuesOf, verdictNumber, judgementValues, refusedBy}
+use Rattle.session.specs.Answers.{Answer, Values, WithMargin, RefusedAt, loadAnswer, judgeAnswer, verdictNumber, judgementAnswer, refusedBy}
 use Rattle.session.specs.Calls.{unlessRefused}
 use Rattle.session.specs.Yard.{Entry, entries, alone, passing, firstRefusal}
-use Rattle.session.specs.YardRun.{answersTo, entriesTo, withAnswer, Ran}
+use Rattle.session.specs.YardRun.{answersTo, withAnswer, Ran}
 use Rattle.session.specs.declared.Judged.{Judged}
 use Rattle.session.specs.declared.Judged.the-variants.{Figures}
 use Rattle.session.specs.declared.Judged.the-variants.{Refused as NotJudged}
@@ -29,17 +29,20 @@ use Rattle.session.proofs.Loads.{never-both}
 pub first-append : (xs ys : List Answer) (x : Answer) → firstRefusal (xs ++ ys) x ≡ firstRefusal xs (firstRefusal ys x)
 first-append [] ys x = refl
 first-append (Values v ∷ xs) ys x = first-append xs ys x
+first-append (WithMargin v m ∷ xs) ys x = first-append xs ys x
 first-append (RefusedAt n p ∷ xs) ys x = refl
 
 -- a row with no refusal leaves what stands behind it, and one with a refusal does not come to it
 pub first-none : (xs : List Answer) (x : Answer) → firstRefusal xs (Values []) ≡ Values [] → firstRefusal xs x ≡ x
 first-none [] x e = refl
 first-none (Values v ∷ xs) x e = first-none xs x e
+first-none (WithMargin v m ∷ xs) x e = first-none xs x e
 first-none (RefusedAt n p ∷ xs) x e = never-both [] n p (sym e)
 
 pub first-some : (xs : List Answer) (x : Answer) (n p : ℕ) → firstRefusal xs (Values []) ≡ RefusedAt n p → firstRefusal xs x ≡ RefusedAt n p
 first-some [] x n p e = never-both [] n p e
 first-some (Values v ∷ xs) x n p e = first-some xs x n p e
+first-some (WithMargin v m ∷ xs) x n p e = first-some xs x n p e
 first-some (RefusedAt m q ∷ xs) x n p e = e
 
 -- the answers with one vehicle more
@@ -54,9 +57,6 @@ module _ (s : Session) (yard : List ℕ) (i : ℕ) where
   answers-more =
       ap (answersTo s yard) (add-one i) ∙ ap (map (alone s)) (one-more-file i (drop 1 yard)) ∙ map-append (alone s) (filesIn i (drop 1 yard)) (nextFile ∷ [])
 
-  entries-more : entriesTo s yard (i + 1) ≡ entriesTo s yard i ++ valuesOf (alone s nextFile) ∷ []
-  entries-more = ap (map valuesOf) answers-more ∙ map-append valuesOf (answersTo s yard i) (alone s nextFile ∷ [])
-
   -- the first refusal is that of the vehicles before it, else its own
   first-more : firstRefusal (answersTo s yard (i + 1)) (Values []) ≡ firstRefusal (answersTo s yard i) (unlessRefused (alone s nextFile) (alone s nextFile) (Values []))
   first-more =
@@ -67,10 +67,10 @@ pub passing-append : (xs ys : List Entry) → passing (xs ++ ys) ≡ passing xs 
 passing-append [] ys = omega arith
 passing-append (a ∷ xs) ys = omega (arith, passing-append xs ys)
 
-passing-one : (j : Judgement) → passing (judgementValues j ∷ []) ≡ verdictNumber (j .verdict)
+passing-one : (j : Judgement) → passing (judgementAnswer j ∷ []) ≡ verdictNumber (j .verdict)
 passing-one j = go (j .verdict)
   where
-    go : (v : Verdict) → passing ((j .figure .0 ∷ j .governing ∷ verdictNumber v ∷ []) ∷ []) ≡ verdictNumber v
+    go : (v : Verdict) → passing (WithMargin (j .figure .0 ∷ j .governing ∷ verdictNumber v ∷ []) (j .margin) ∷ []) ≡ verdictNumber v
     go Pass = refl
     go Refuse = refl
 
@@ -134,7 +134,7 @@ module _ (s : Session) (yard : List ℕ) (i : ℕ) (r : Run) (h : Ran s yard i r
         going = λ taken. never-both [] (f .number) (f .place) (ap loadAnswer (sym taken));
       }
   ran-more (Figures j) few e =
-      let own : entriesTo s yard (i + 1) ≡ entriesTo s yard i ++ judgementValues j ∷ [] = entries-more s yard i ∙ ap (λ (a : Answer). entriesTo s yard i ++ valuesOf a ∷ []) (sym (e ∙ ap (alone s) cut)) in
+      let own : answersTo s yard (i + 1) ≡ answersTo s yard i ++ judgementAnswer j ∷ [] = answers-more s yard i ∙ ap (λ (a : Answer). answersTo s yard i ++ a ∷ []) (sym (e ∙ ap (alone s) cut)) in
       record {
         answer = sym (first-is (Figures j) e);
         sized = length-set (r .answers) i j ∙ h .sized;
@@ -143,9 +143,9 @@ module _ (s : Session) (yard : List ℕ) (i : ℕ) (r : Run) (h : Ran s yard i r
               within = within;
               rest = left;
               entries =
-                  ap (λ (n : ℕ). entries (take n (set (r .answers) i j))) (add-one i) ∙ ap entries (take-suc-set (r .answers) i j (omega (arith, h .sized))) ∙ map-append judgementValues (take i (r .answers)) (j ∷ []) ∙ ap (λ (l : List Entry). l ++ judgementValues j ∷ []) (h .going t .entries) ∙ sym own;
+                  ap (λ (n : ℕ). entries (take n (set (r .answers) i j))) (add-one i) ∙ ap entries (take-suc-set (r .answers) i j (omega (arith, h .sized))) ∙ map-append judgementAnswer (take i (r .answers)) (j ∷ []) ∙ ap (λ (l : List Entry). l ++ judgementAnswer j ∷ []) (h .going t .entries) ∙ sym own;
               passes =
-                  sym (ap passing own ∙ passing-append (entriesTo s yard i) (judgementValues j ∷ []) ∙ rw (passing-one j, ← (h .going t .passes)));
+                  sym (ap passing own ∙ passing-append (answersTo s yard i) (judgementAnswer j ∷ []) ∙ rw (passing-one j, ← (h .going t .passes)));
               few = omega (arith, h .going t .few, verdict-small (j .verdict));
             };
       }

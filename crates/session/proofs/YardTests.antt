@@ -18,7 +18,7 @@ use Rattle.files.proofs.Tests.{not-none, none, passed, in-range}
 use Rattle.rating.specs.declared.judging.Judgement.{Judgement}
 use Rattle.session.specs.Answers.{Answer, Values, RefusedAt, loadAnswer, refusedBy}
 use Rattle.session.specs.Calls.{Valid}
-use Rattle.session.specs.Yard.{vehicleAnswers, yardEntries, passing, firstRefusal, frontTests, endTests, test, yardAnswered}
+use Rattle.session.specs.Yard.{vehicleAnswers, passing, firstRefusal, frontTests, endTests, test, yardAnswered}
 use Rattle.session.specs.YardRun.{Ran, Answered, refusedYard}
 use Rattle.session.specs.declared.Session.{Session}
 use Rattle.session.specs.declared.yard.Run.{Run}
@@ -47,7 +47,7 @@ module _ (s : Session) (yard : List ℕ) (room : ℕ) where
   ends = endTests (length (leftOver yard)) (vehiclesOf yard) room
 
   abbrev taken : Answer
-  taken = Values (passing (yardEntries s yard) ∷ [])
+  taken = Values (passing (vehicleAnswers s yard) ∷ [])
 
   -- the answer by its three parts
   by-parts : yardAnswered s yard room ≡ choose (eqb front 0) (firstRefusal (vehicleAnswers s yard) (choose (eqb (firstOf ends) 0) taken (RefusedAt (firstOf ends) 0))) (RefusedAt front 0)

@@ -7,9 +7,9 @@ use mathlib.Core.List.{List, [], _∷_, _++_, map, map-append}
 use lib.ListN.{length, take, drop, length-map}
 use Rattle.files.specs.YardFile.{vehiclesOf}
 use Rattle.rating.specs.declared.judging.Judgement.{Judgement}
-use Rattle.session.specs.Answers.{Answer, Values, RefusedAt, yardJudged, judgementValues}
+use Rattle.session.specs.Answers.{Answer, Values, WithMargin, RefusedAt, yardJudged, judgementAnswer}
 use Rattle.session.specs.Calls.{Valid, unlessRefused}
-use Rattle.session.specs.Yard.{entries, yardEntries, yardAnswered, judgeYard, yardList}
+use Rattle.session.specs.Yard.{entries, vehicleAnswers, yardAnswered, judgeYard, yardList}
 use Rattle.session.specs.YardRun.{Answered}
 use Rattle.session.specs.declared.Session.{Session}
 use Rattle.session.specs.declared.yard.YardAnswers.{YardAnswers}
@@ -19,14 +19,16 @@ map-drop f zero l = refl
 map-drop f (suc n) [] = refl
 map-drop f (suc n) (x ∷ l) = map-drop f n l
 
+both-parts : (found ys : List Judgement) (count : ℕ) → entries (take count found ++ drop count ys) ≡ entries (take count found) ++ drop count (entries ys)
+both-parts found ys count = map-append judgementAnswer (take count found) (drop count ys) ∙ rw (map-drop judgementAnswer count ys)
+
 -- the list with the answers in front, by the answer
 written : (a : Answer) (s : Session) (yard : List ℕ) (ys found : List Judgement) (count : ℕ) → count ≡ unlessRefused a 0 (vehiclesOf yard) →
-    entries (take count found) ≡ unlessRefused a [] (yardEntries s yard) →
-    entries (take count found ++ drop count ys) ≡ unlessRefused a (entries ys) (yardEntries s yard ++ drop (vehiclesOf yard) (entries ys))
-written (Values v) s yard ys found count c e =
-    map-append judgementValues (take count found) (drop count ys) ∙ rw (e, map-drop judgementValues count ys, c)
-written (RefusedAt n p) s yard ys found count c e =
-    map-append judgementValues (take count found) (drop count ys) ∙ rw (e, map-drop judgementValues count ys, c)
+    entries (take count found) ≡ unlessRefused a [] (vehicleAnswers s yard) →
+    entries (take count found ++ drop count ys) ≡ unlessRefused a (entries ys) (vehicleAnswers s yard ++ drop (vehiclesOf yard) (entries ys))
+written (Values v) s yard ys found count c e = both-parts found ys count ∙ rw (e, c)
+written (WithMargin v m) s yard ys found count c e = both-parts found ys count ∙ rw (e, c)
+written (RefusedAt n p) s yard ys found count c e = both-parts found ys count ∙ rw (e, c)
 
 -- the clauses of `judge_yard`, in the order of its contract: s and the yard are passed, the list is ys on entry and zs at exit
 abbrev Said : Session → (yard : List ℕ) → List Judgement → YardAnswers → List Judgement → Type 0
@@ -37,7 +39,7 @@ pub yard-written : (s : Session) (yard : List ℕ) (ys : List Judgement) (found 
     zs ≡ take (found .count) (found .answers) ++ drop (found .count) ys → length zs ≡ length ys → Said s yard ys found zs
 unfolding judgeYard yardList
 yard-written s yard ys found zs a e long =
-    let same = length-map ys judgementValues in (
+    let same = length-map ys judgementAnswer in (
       a .is ∙ ap (λ (n : ℕ). record { session = s; answer = yardAnswered s yard n }) (sym same),
       (rw (e, same) (written (yardAnswered s yard (length ys)) s yard ys (found .answers) (found .count) (a .count) (a .entries)), a .valid),
     )

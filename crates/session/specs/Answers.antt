@@ -1,6 +1,7 @@
 -- The answers' numbers: a number and values for every case of each answer, those of the documents where they have them.
 use Prim.Native.Nat.{ℕ}
 use mathlib.Core.List.{List, [], _∷_}
+use lib.IntN.{ℤ}
 use Rattle.files.specs.declared.Reading.{Reading}
 use Rattle.files.specs.declared.Reading.the-variants.{Taken, Refused}
 use Rattle.files.specs.declared.Refusal.{Refusal}
@@ -29,23 +30,28 @@ use Rattle.session.specs.declared.yard.YardJudged.{YardJudged}
 use Rattle.session.specs.declared.yard.YardJudged.the-variants.{Passes}
 use Rattle.session.specs.declared.yard.YardJudged.the-variants.{Refused as NotYard}
 
--- The values of a call that succeeds, or a number of the list of refusals with its place. "A refusal carries its number and place,
--- nothing else."
+-- The values of a call that succeeds, with a margin where the answer has one, or a number of the list of refusals with its place. "A refusal
+-- carries its number and place, nothing else." Document 02, request 6/13: "each answer record gains that signed margin"
 pub data Answer : Type 0 where
   Values : List ℕ → Answer
+  WithMargin : List ℕ → (margin : ℤ) → Answer
   RefusedAt : (number place : ℕ) → Answer
 
 -- the number of an answer, 0 where the call succeeds, and its place
 abbrev pub numberOf : Answer → ℕ
 numberOf (Values values) = 0
+numberOf (WithMargin values margin) = 0
 numberOf (RefusedAt number place) = number
 
 abbrev pub placeOf : Answer → ℕ
 placeOf (Values values) = 0
+placeOf (WithMargin values margin) = 0
 placeOf (RefusedAt number place) = place
 
+-- its values without the margin
 abbrev pub valuesOf : Answer → List ℕ
 valuesOf (Values values) = values
+valuesOf (WithMargin values margin) = values
 valuesOf (RefusedAt number place) = []
 
 abbrev pub refusedBy : Refusal → Answer
@@ -60,20 +66,28 @@ verdictNumber Refuse = 0
 abbrev pub ratingValues : Rating → List ℕ
 ratingValues r = r .permitted .0 ∷ r .load .0 ∷ verdictNumber (r .verdict) ∷ []
 
+-- "rate's the member's own"
+abbrev pub ratingAnswer : Rating → Answer
+ratingAnswer r = WithMargin (ratingValues r) (r .margin)
+
 -- "Judge gives figure, governing place and verdict"
 abbrev pub judgementValues : Judgement → List ℕ
 judgementValues j = j .figure .0 ∷ j .governing ∷ verdictNumber (j .verdict) ∷ []
+
+-- "judge's and the yard's the governing member's"
+abbrev pub judgementAnswer : Judgement → Answer
+judgementAnswer j = WithMargin (judgementValues j) (j .margin)
 
 abbrev pub loadAnswer : Reading → Answer
 loadAnswer Taken = Values []
 loadAnswer (Refused r) = refusedBy r
 
 abbrev pub rateAnswer : Rated → Answer
-rateAnswer (Loads r) = Values (ratingValues r)
+rateAnswer (Loads r) = ratingAnswer r
 rateAnswer (NotRated r) = refusedBy r
 
 abbrev pub judgeAnswer : Judged → Answer
-judgeAnswer (Figures j) = Values (judgementValues j)
+judgeAnswer (Figures j) = judgementAnswer j
 judgeAnswer (NotJudged r) = refusedBy r
 
 -- document 02, request 3/13: "The number of passing vehicles comes back too"

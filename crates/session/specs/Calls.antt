@@ -18,7 +18,7 @@ use Rattle.files.specs.declared.Reading.{Reading}
 use Rattle.files.specs.declared.Reading.the-variants.{Taken, Refused}
 use Rattle.member.specs.declared.record.Survey.{Survey}
 use Rattle.member.specs.declared.record.Vehicle.{Vehicle}
-use Rattle.session.specs.Answers.{Answer, Values, RefusedAt, Outcome, refusedBy, ratingValues, judgementValues}
+use Rattle.session.specs.Answers.{Answer, Values, WithMargin, RefusedAt, Outcome, refusedBy, ratingAnswer, judgementAnswer}
 use Rattle.session.specs.declared.Session.{Session}
 
 -- a session with nothing loaded
@@ -60,9 +60,9 @@ rateFault members axles place = firstOf (stateFault members axles ∷ 13 unless 
 unfoldable pub judgeFault : (members axles entries : ℕ) → ℕ
 judgeFault members axles entries = firstOf (stateFault members axles ∷ 14 unless leb (2 * members) entries ∷ [])
 
--- the values where there is no fault, else the fault at place 0: "The other refusals have place 0."
-abbrev pub unlessFault : ℕ → List ℕ → Answer
-unlessFault fault values = choose (eqb fault 0) (Values values) (RefusedAt fault 0)
+-- the answer where there is no fault, else the fault at place 0: "The other refusals have place 0."
+abbrev pub unlessFault : ℕ → Answer → Answer
+unlessFault fault answer = choose (eqb fault 0) answer (RefusedAt fault 0)
 
 -- "Places start at 1." "All refusals leave state and list as found."
 unfoldable pub rate : Session → (place : ℕ) → Outcome
@@ -71,7 +71,7 @@ rate s place =
       session = s;
       answer =
           unlessFault (rateFault (s .survey .count) (s .vehicle .axles) place)
-          (ratingValues (ratingOf (memberAt (members s) (place - 1)) (s .vehicle)));
+          (ratingAnswer (ratingOf (memberAt (members s) (place - 1)) (s .vehicle)));
     }
 
 unfoldable pub judge : Session → (list : List ℕ) → Outcome
@@ -80,7 +80,7 @@ judge s list =
       session = s;
       answer =
           unlessFault (judgeFault (s .survey .count) (s .vehicle .axles) (length list))
-          (judgementValues (judgementOf (members s) (s .vehicle)));
+          (judgementAnswer (judgementOf (members s) (s .vehicle)));
     }
 
 -- what the lent list then holds
@@ -91,6 +91,7 @@ judgeList s list =
 -- by an answer: the first where it is a refusal, else the second
 abbrev pub unlessRefused : {A : Type 0} → Answer → (refused next : A) → A
 unlessRefused (Values values) refused next = next
+unlessRefused (WithMargin values margin) refused next = next
 unlessRefused (RefusedAt number place) refused next = refused
 
 abbrev pub andThen : Outcome → (Session → Outcome) → Outcome

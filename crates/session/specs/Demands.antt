@@ -8,7 +8,7 @@ use lib.ListN.{length}
 use Rattle.rating.specs.Compare.{SamePlaces, Heavier}
 use Rattle.member.specs.Format.{In, _‥_}
 use Rattle.member.specs.Formula.{Permitted}
-use Rattle.rating.specs.Judgement.{judgementOf}
+use Rattle.rating.specs.Judgement.{ratingOf, judgementOf}
 use Rattle.member.specs.PermittedLoad.{formulaOf}
 use Rattle.rating.specs.Surveyed.{memberAt}
 use Rattle.member.specs.declared.record.Member.{Member}
@@ -19,10 +19,10 @@ use Rattle.files.specs.SurveyFile.{recordsOf, surveyOf}
 use Rattle.files.specs.VehicleFile.{vehicleOf}
 use Rattle.files.specs.declared.Refusal.{Refusal}
 use Rattle.between.specs.declared.Between.{Between}
-use Rattle.session.specs.Answers.{Values, RefusedAt, refusedBy, judgementValues}
+use Rattle.session.specs.Answers.{Values, RefusedAt, refusedBy, judgementAnswer}
 use Rattle.session.specs.Calls.{Valid, newSession, members, loadSurvey, loadVehicle, rate, judge, judgeList, judgeFiles}
 use Rattle.session.specs.History.{Call, LoadSurvey, LoadVehicle, after, TakesSurvey, TakesVehicle, NoneTakes, LastTakes, TakenLast, Holds}
-use Rattle.session.specs.Parts.{FromState, RefusedBoth, Answers, FilesAnswered, Governs, Covers, Falls, permittedAt, vehicleLoadAt, judgementIn}
+use Rattle.session.specs.Parts.{FromState, RefusedBoth, Answers, FilesAnswered, Margin, Governs, Covers, Falls, permittedAt, vehicleLoadAt, judgementIn}
 use Rattle.session.specs.Readings.{judgeBetween}
 use Rattle.session.specs.ReadingsCall.{Gives, BetweenAnswered, BetweenTaken, BetweenBounds}
 use Rattle.session.specs.Yard.{Entry, judgeYard}
@@ -78,12 +78,14 @@ pub record Demand2 : Type 0 where
   pub vehicle-held : (s : Session) (bytes : List ℕ) → AllowedVehicleFile bytes →
       loadVehicle s bytes .session ≡ record { survey = s .survey; vehicle = vehicleOf bytes }
   -- "Permitted load and vehicle load of every member, the bridge's figure, governing member and verdict are those of VSN 12-73 as
-  -- condensed in document 01"
+  -- condensed in document 01"; document 02, request 6/13: "Demand 2's governing member is now this one"
   pub answers : (s : Session) → 0 < s .survey .count → 0 < s .vehicle .axles → Answers s
-  pub governs : (ms : List Member) (v : Vehicle) → 0 < length ms → Governs ms v (judgementOf ms v .figure .0) (judgementOf ms v .governing)
+  pub governs : (ms : List Member) (v : Vehicle) → 0 < length ms → Governs ms v (judgementOf ms v)
+  -- and the margin of a member, document 02, request 6/13
+  pub margins : (m : Member) (v : Vehicle) → Margin (ratingOf m v)
   -- the same on the bytes of both files
   pub files-judged : (survey vehicle : List ℕ) → AllowedSurveyFile survey → AllowedVehicleFile vehicle →
-      judgeFiles survey vehicle .answer ≡ Values (judgementValues (judgementIn (record { survey = surveyOf survey; vehicle = vehicleOf vehicle })))
+      judgeFiles survey vehicle .answer ≡ judgementAnswer (judgementIn (record { survey = surveyOf survey; vehicle = vehicleOf vehicle }))
   -- and of the yard, document 02, request 3/13: "Every answer is that of loading that vehicle alone and judging."
   pub yard-judged : (s : Session) → Valid s → (yard : List ℕ) (list : List Entry) → YardTaken s yard list
   -- and of two readings, request 5/13: the bounds and the verdict are those of the two surveys, each loaded

@@ -2,8 +2,10 @@
 use Prim.Native.Nat.{ℕ, _+_, _-_, _*_, _≤_, _<_}
 use mathlib.Core.Path.{_≡_}
 use mathlib.Core.List.{List}
-use mathlib.Core.Logic.{_⊎_}
+use mathlib.Core.Logic.{_⊎_, _↔_}
+use lib.IntN.{ℤ, pos, _+ℤ_}
 use lib.ListN.{length}
+use lib.Signed.{_≤ℤ_, _<ℤ_}
 use Rattle.section.specs.Fraction.{Fraction, Sound, whole, _⊕_, _⊑_, _⊏_}
 use Rattle.section.specs.Units.{weight}
 use Rattle.influence.specs.Influence.{gives, behind}
@@ -11,18 +13,18 @@ use Rattle.member.specs.Format.{In, _‥_}
 use Rattle.member.specs.Formula.{Permitted}
 use Rattle.member.specs.Wear.{SpreadKept}
 use Rattle.rating.specs.Compare.{SpreadsKept}
-use Rattle.rating.specs.Judgement.{permittedFor, ratingOf, judgementOf, written}
+use Rattle.rating.specs.Judgement.{permittedFor, margin, ratingOf, judgementOf, written}
 use Rattle.member.specs.PermittedLoad.{formulaOf}
 use Rattle.rating.specs.Surveyed.{memberAt}
 use Rattle.rating.specs.VehicleLoad.{influenceLine, vehicleLoadOn}
 use Rattle.rating.specs.declared.judging.Judgement.{Judgement}
 use Rattle.rating.specs.declared.judging.Rating.{Rating}
-use Rattle.rating.specs.declared.judging.Verdict.the-variants.{Refuse}
+use Rattle.rating.specs.declared.judging.Verdict.the-variants.{Pass, Refuse}
 use Rattle.member.specs.declared.record.Member.{Member}
 use Rattle.member.specs.declared.record.Vehicle.{Vehicle}
 use Rattle.files.specs.SurveyFile.{countOf, recordAt, recordsOf}
 use Rattle.files.specs.VehicleFile.{vehicleOf}
-use Rattle.session.specs.Answers.{Answer, Values, RefusedAt, ratingValues, judgementValues}
+use Rattle.session.specs.Answers.{Answer, WithMargin, RefusedAt, ratingAnswer, judgementAnswer}
 use Rattle.session.specs.Calls.{members, rate, judge, judgeList}
 use Rattle.session.specs.declared.Session.{Session}
 
@@ -40,9 +42,9 @@ ratingAt s i = ratingOf (memberAt (members s) i) (s .vehicle)
 abbrev pub judgementIn : Session → Judgement
 judgementIn s = judgementOf (members s) (s .vehicle)
 
--- the call succeeds with values, or is refused by a number from the state, at place 0
+-- the call succeeds with values and a margin, or is refused by a number from the state, at place 0
 abbrev pub FromState : (numbers : ℕ → Type 0) → Answer → Type 0
-FromState numbers a = ((values : List ℕ) × (a ≡ Values values)) ⊎ ((n : ℕ) × (numbers n) × (a ≡ RefusedAt n 0))
+FromState numbers a = ((values : List ℕ) × (margin : ℤ) × (a ≡ WithMargin values margin)) ⊎ ((n : ℕ) × (numbers n) × (a ≡ RefusedAt n 0))
 
 -- rate and judge are refused by this number, whatever place and list they are given
 abbrev pub RefusedBoth : Session → (number : ℕ) → Type 0
@@ -51,18 +53,31 @@ RefusedBoth s number =
 
 -- what rate and judge answer and write in a session in which both files are loaded, wherever the call succeeds
 pub record Answers (s : Session) : Type 0 where
-  pub rated : (i : ℕ) → i < s .survey .count → rate s (i + 1) .answer ≡ Values (ratingValues (ratingAt s i))
+  pub rated : (i : ℕ) → i < s .survey .count → rate s (i + 1) .answer ≡ ratingAnswer (ratingAt s i)
   pub judged : (list : List ℕ) → 2 * s .survey .count ≤ length list →
-      judge s list .answer ≡ Values (judgementValues (judgementIn s))
+      judge s list .answer ≡ judgementAnswer (judgementIn s)
   pub listed : (list : List ℕ) → 2 * s .survey .count ≤ length list →
       judgeList s list ≡ written (s .vehicle) (members s) list
 
--- the bridge's figure and governing member, in words: the least permitted load, and the first member that has it
-pub record Governs (ms : List Member) (v : Vehicle) (figure place : ℕ) : Type 0 where
-  pub least : (i : ℕ) → i < length ms → figure ≤ permittedFor v (memberAt ms i)
-  pub within : In (1 ‥ length ms) place
-  pub has : permittedFor v (memberAt ms (place - 1)) ≡ figure
-  pub first : (i : ℕ) → i + 1 < place → permittedFor v (memberAt ms i) ≡ figure → ⊥
+-- A member's margin, in words. Document 02, request 6/13: "its permitted load minus its vehicle load, and it may be negative": with the
+-- vehicle load it makes up the permitted load, and it is not negative exactly where the member passes.
+pub record Margin (r : Rating) : Type 0 where
+  pub difference : r .margin +ℤ pos (r .load .0) ≡ pos (r .permitted .0)
+  pub decides : (r .verdict ≡ Pass) ↔ (pos 0 ≤ℤ r .margin)
+
+-- the bridge's figure and governing member, in words
+pub record Governs (ms : List Member) (v : Vehicle) (j : Judgement) : Type 0 where
+  -- "The bridge's figure is the least permitted load": no member's is less, and one has it
+  pub figure-least : (i : ℕ) → i < length ms → j .figure .0 ≤ permittedFor v (memberAt ms i)
+  pub figure-had : (i : ℕ) × (i < length ms) × (permittedFor v (memberAt ms i) ≡ j .figure .0)
+  -- document 02, request 6/13: "The governing member becomes the one with the least margin, the first on a tie"; the margin is "the
+  -- governing member's"
+  pub within : In (1 ‥ length ms) (j .governing)
+  pub has : margin v (memberAt ms (j .governing - 1)) ≡ j .margin
+  pub least : (i : ℕ) → i < length ms → j .margin ≤ℤ margin v (memberAt ms i)
+  pub first : (i : ℕ) → i + 1 < j .governing → j .margin <ℤ margin v (memberAt ms i)
+  -- so that member decides: the bridge passes exactly where its margin is not negative
+  pub decides : (j .verdict ≡ Pass) ↔ (pos 0 ≤ℤ j .margin)
 
 -- what the position with the front axle u half centimetres from an end gives, in one direction of travel and in the other
 module _ (m : Member) (v : Vehicle) where
@@ -85,9 +100,9 @@ pub record Covers (m : Member) (v : Vehicle) (load : ℕ) : Type 0 where
 -- of demand 3
 pub record FilesAnswered (s : Session) (survey vehicle : List ℕ) : Type 0 where
   pub rated : (i : ℕ) → i < countOf survey →
-      rate s (i + 1) .answer ≡ Values (ratingValues (ratingOf (recordAt survey i) (vehicleOf vehicle)))
+      rate s (i + 1) .answer ≡ ratingAnswer (ratingOf (recordAt survey i) (vehicleOf vehicle))
   pub judged : (list : List ℕ) → 2 * countOf survey ≤ length list →
-      judge s list .answer ≡ Values (judgementValues (judgementOf (recordsOf survey) (vehicleOf vehicle)))
+      judge s list .answer ≡ judgementAnswer (judgementOf (recordsOf survey) (vehicleOf vehicle))
   pub listed : (list : List ℕ) → 2 * countOf survey ≤ length list →
       judgeList s list ≡ written (vehicleOf vehicle) (recordsOf survey) list
   -- "13 no such place; 14 list shorter than two entries a member"

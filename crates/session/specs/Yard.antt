@@ -10,31 +10,28 @@ use Rattle.rating.specs.declared.judging.Judgement.{Judgement}
 use Rattle.rating.specs.declared.judging.Verdict.the-variants.{Pass}
 use Rattle.files.specs.Reading.{_unless_, isIn}
 use Rattle.files.specs.YardFile.{MOST-VEHICLES, vehiclesOf, vehicleFiles, leftOver}
-use Rattle.session.specs.Answers.{Answer, Values, Outcome, valuesOf, verdictNumber, judgementValues}
+use Rattle.session.specs.Answers.{Answer, Values, Outcome, valuesOf, verdictNumber, judgementAnswer}
 use Rattle.session.specs.Calls.{loadVehicle, thenJudge, unlessFault, unlessRefused}
 use Rattle.session.specs.declared.Session.{Session}
 
--- An entry of the lent list: "figure, governing place, verdict", the values that judge gives.
+-- An entry of the lent list: "figure, governing place, verdict", and request 6/13, "the governing member's" margin: what judge answers.
 abbrev pub Entry : Type 0
-Entry = List ℕ
+Entry = Answer
 
 abbrev pub entries : List Judgement → List Entry
-entries list = map judgementValues list
+entries list = map judgementAnswer list
 
 -- "Every answer is that of loading that vehicle alone and judging."
 unfoldable pub alone : Session → (vehicle : List ℕ) → Answer
 alone s vehicle = thenJudge (loadVehicle s vehicle) .answer
 
+-- of each vehicle, in the vehicles' order: "write one answer per vehicle"
 abbrev pub vehicleAnswers : Session → (yard : List ℕ) → List Answer
 vehicleAnswers s yard = map (alone s) (vehicleFiles yard)
 
--- "write one answer per vehicle": the entries, in the vehicles' order
-abbrev pub yardEntries : Session → (yard : List ℕ) → List Entry
-yardEntries s yard = map valuesOf (vehicleAnswers s yard)
-
 -- an entry whose verdict, its third value, is pass; and the number of such entries
 abbrev pub passes : Entry → Bool
-passes entry = eqb (getD entry 2 0) (verdictNumber Pass)
+passes entry = eqb (getD (valuesOf entry) 2 0) (verdictNumber Pass)
 
 abbrev pub passing : List Entry → ℕ
 passing [] = 0
@@ -57,7 +54,7 @@ endTests left count room = 1 unless eqb left 0 ∷ 14 unless leb count room ∷ 
 
 -- a fault at place 0, or none
 abbrev pub test : ℕ → Answer
-test fault = unlessFault fault []
+test fault = unlessFault fault (Values [])
 
 abbrev pub yardTests : Session → (yard : List ℕ) (room : ℕ) → List Answer
 yardTests s yard room =
@@ -67,7 +64,7 @@ yardTests s yard room =
 
 -- "The number of passing vehicles comes back too", where nothing is refused: with a list of so many entries
 unfoldable pub yardAnswered : Session → (yard : List ℕ) (room : ℕ) → Answer
-yardAnswered s yard room = firstRefusal (yardTests s yard room) (Values (passing (yardEntries s yard) ∷ []))
+yardAnswered s yard room = firstRefusal (yardTests s yard room) (Values (passing (vehicleAnswers s yard) ∷ []))
 
 -- "The survey is the loaded one, and the loaded vehicle is kept."
 unfoldable pub judgeYard : Session → (yard : List ℕ) (list : List Entry) → Outcome
@@ -75,4 +72,4 @@ judgeYard s yard list = record { session = s; answer = yardAnswered s yard (leng
 
 -- what the lent list then holds: "list entries beyond the count are kept"; where the lot is refused, "nothing is written"
 unfoldable pub yardList : Session → (yard : List ℕ) (list : List Entry) → List Entry
-yardList s yard list = unlessRefused (yardAnswered s yard (length list)) list (yardEntries s yard ++ drop (vehiclesOf yard) list)
+yardList s yard list = unlessRefused (yardAnswered s yard (length list)) list (vehicleAnswers s yard ++ drop (vehiclesOf yard) list)

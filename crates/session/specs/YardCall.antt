@@ -12,7 +12,7 @@ use Rattle.files.specs.Refused.{VehicleRefusal}
 use Rattle.files.specs.VehicleFile.{vehicleOf}
 use Rattle.files.specs.YardFile.{MOST-VEHICLES, AllowedYard, vehiclesOf, vehicleFiles, leftOver}
 use Rattle.files.specs.declared.Refusal.{Refusal}
-use Rattle.session.specs.Answers.{Values, RefusedAt, judgementValues}
+use Rattle.session.specs.Answers.{Values, RefusedAt, judgementAnswer}
 use Rattle.session.specs.Calls.{members, loadVehicle, judge}
 use Rattle.session.specs.Yard.{Entry, passing, judgeYard, yardList}
 use Rattle.session.specs.declared.Session.{Session}
@@ -20,6 +20,10 @@ use Rattle.session.specs.declared.Session.{Session}
 -- the file of the vehicle of index i, from 0
 abbrev pub fileAt : (yard : List ℕ) (i : ℕ) → List ℕ
 fileAt yard i = getD (vehicleFiles yard) i []
+
+-- the entry of index i, with no values past the end
+abbrev pub entryAt : (list : List Entry) (i : ℕ) → Entry
+entryAt list i = getD list i (Values [])
 
 -- the vehicles before index i have no fault
 abbrev pub GoodBefore : (yard : List ℕ) (i : ℕ) → Type 0
@@ -66,14 +70,14 @@ module _ (s : Session) (yard : List ℕ) (list : List Entry) where
     -- "Every answer is that of loading that vehicle alone and judging."
     pub loaded : (i : ℕ) → i < vehiclesOf yard → loadVehicle s (fileAt yard i) .answer ≡ Values []
     pub judged : (i : ℕ) → i < vehiclesOf yard → (lent : List ℕ) → 2 * s .survey .count ≤ length lent →
-        judge (loadVehicle s (fileAt yard i) .session) lent .answer ≡ Values (getD (yardList s yard list) i [])
+        judge (loadVehicle s (fileAt yard i) .session) lent .answer ≡ entryAt (yardList s yard list) i
     -- so it is demand 2's judgement of that file
     pub figures : (i : ℕ) → i < vehiclesOf yard →
-        getD (yardList s yard list) i [] ≡ judgementValues (judgementOf (members s) (vehicleOf (fileAt yard i)))
+        entryAt (yardList s yard list) i ≡ judgementAnswer (judgementOf (members s) (vehicleOf (fileAt yard i)))
     -- "The number of passing vehicles comes back too, and is the number of passes written."
     pub passes : n ≡ passing (take (vehiclesOf yard) (yardList s yard list))
     -- "list entries beyond the count are kept"
-    pub beyond : (i : ℕ) → vehiclesOf yard ≤ i → getD (yardList s yard list) i [] ≡ getD list i []
+    pub beyond : (i : ℕ) → vehiclesOf yard ≤ i → entryAt (yardList s yard list) i ≡ entryAt list i
     pub length-kept : length (yardList s yard list) ≡ length list
 
   -- the yard is judged exactly when a survey is loaded, the document allows the yard, and the list is long enough

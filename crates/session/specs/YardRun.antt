@@ -8,9 +8,9 @@ use Rattle.files.specs.YardFile.{MOST-VEHICLES, vehiclesOf, filesIn, leftAfter}
 use Rattle.files.specs.declared.Reading.the-variants.{Taken, Refused}
 use Rattle.files.specs.declared.Refusal.{Refusal}
 use Rattle.rating.specs.declared.judging.Judgement.{Judgement}
-use Rattle.session.specs.Answers.{Answer, Values, loadAnswer, valuesOf, verdictNumber, yardJudged}
+use Rattle.session.specs.Answers.{Answer, Values, loadAnswer, verdictNumber, yardJudged}
 use Rattle.session.specs.Calls.{Valid, unlessRefused}
-use Rattle.session.specs.Yard.{Entry, alone, entries, yardEntries, passing, firstRefusal, yardAnswered}
+use Rattle.session.specs.Yard.{alone, entries, vehicleAnswers, passing, firstRefusal, yardAnswered}
 use Rattle.session.specs.declared.Judged.{Judged}
 use Rattle.session.specs.declared.Judged.the-variants.{Figures}
 use Rattle.session.specs.declared.Judged.the-variants.{Refused as NotJudged}
@@ -19,12 +19,9 @@ use Rattle.session.specs.declared.yard.Run.{Run}
 use Rattle.session.specs.declared.yard.YardAnswers.{YardAnswers}
 use Rattle.session.specs.declared.yard.YardJudged.the-variants.{Refused as NotYard}
 
--- the answers of the first i vehicles, and their entries
+-- the answers of the first i vehicles
 abbrev pub answersTo : Session → (yard : List ℕ) (i : ℕ) → List Answer
 answersTo s yard i = map (alone s) (filesIn i (drop 1 yard))
-
-abbrev pub entriesTo : Session → (yard : List ℕ) (i : ℕ) → List Entry
-entriesTo s yard i = map valuesOf (answersTo s yard i)
 
 -- one vehicle more, by its answer
 abbrev pub withAnswer : Run → Judged → (i end : ℕ) → Run
@@ -36,8 +33,8 @@ withAnswer r (NotJudged f) i end = record { answer = Refused f; at = end; passes
 pub record Going (s : Session) (yard : List ℕ) (i : ℕ) (r : Run) : Type 0 where
   pub within : r .at ≤ length yard
   pub rest : drop (r .at) yard ≡ leftAfter i (drop 1 yard)
-  pub entries : entries (take i (r .answers)) ≡ entriesTo s yard i
-  pub passes : r .passes ≡ passing (entriesTo s yard i)
+  pub entries : entries (take i (r .answers)) ≡ answersTo s yard i
+  pub passes : r .passes ≡ passing (answersTo s yard i)
   pub few : r .passes ≤ i
 
 -- after i vehicles
@@ -58,4 +55,4 @@ pub record Answered (s : Session) (yard : List ℕ) (room : ℕ) (r : YardAnswer
   pub fits : r .count ≤ room
   pub count : r .count ≡ unlessRefused (yardAnswered s yard room) 0 (vehiclesOf yard)
   pub valid : Valid (r .after .session)
-  pub entries : entries (take (r .count) (r .answers)) ≡ unlessRefused (yardAnswered s yard room) [] (yardEntries s yard)
+  pub entries : entries (take (r .count) (r .answers)) ≡ unlessRefused (yardAnswered s yard room) [] (vehicleAnswers s yard)

@@ -29,13 +29,13 @@ pub struct Session {
     vehicle: Vehicle,
 }
 
-// What rate gives: the member's loads and verdict, or a refusal.
+// What rate gives: the member's loads, verdict and margin, or a refusal.
 pub enum Rated {
     Loads(Rating),
     Refused(Refusal),
 }
 
-// What judge gives: figure, governing place and verdict, or a refusal.
+// What judge gives: figure, governing place, verdict and the governing member's margin, or a refusal.
 pub enum Judged {
     Figures(Judgement),
     Refused(Refusal),

@@ -55,6 +55,7 @@ fn no_vehicle() -> Run
         figure: KgfPerM(0),
         governing: 0,
         verdict: Verdict::Refuse,
+        margin: 0,
     };
     Run {
         answer: Reading::Taken,

@@ -73,7 +73,7 @@ abbrev E : RattleType
 E = T.the-row
 
 abbrev SIZE : ℕ
-SIZE = 24
+SIZE = 32
 
 abbrev vals : Judgement → List Val
 vals = LL.vals T.the-type T′.the-laws
