@@ -8,14 +8,14 @@ use native.Mathlib.Omega.{arith}
 use lib.ListN.{length, take, drop, getD, set, length-append, length-drop}
 use lib.Seq.{length-take-le}
 use Rattle.rating.specs.declared.judging.Judgement.{Judgement}
-use Rattle.files.specs.YardFile.{joined}
 use Rattle.session.specs.Answers.{verdictNumber}
 use Rattle.session.specs.Yard.{entries}
+use Rattle.exports.specs.YardNumbers.{numbersIn}
 
 abbrev pub rows : List Judgement → List ℕ → ℕ → List ℕ
-rows js list i = joined (entries (take i js)) ++ drop (3 * i) list
+rows js list i = numbersIn (entries (take i js)) ++ drop (3 * i) list
 
-joined-length : (js : List Judgement) → length (joined (entries js)) ≡ 3 * length js
+joined-length : (js : List Judgement) → length (numbersIn (entries js)) ≡ 3 * length js
 joined-length [] = refl
 joined-length (j ∷ js) = omega (arith, joined-length js)
 

@@ -3,10 +3,10 @@ ghost use mathlib.Core.Path.{_≡_};
 ghost use Prim.Native.Nat.{_*_, _≤_};
 ghost use mathlib.Core.List.{_++_};
 ghost use lib.ListN.{length, take, drop};
-ghost use Rattle.files.specs.YardFile.{MOST-VEHICLES, joined};
+ghost use Rattle.files.specs.YardFile.{MOST-VEHICLES};
 ghost use Rattle.session.specs.Answers.{yardAnswer};
 ghost use Rattle.session.specs.Yard.{entries};
-ghost use Rattle.exports.specs.YardNumbers.{yardNumbersOf, yardNumbers, yardNumberList};
+ghost use Rattle.exports.specs.YardNumbers.{yardNumbersOf, numbersIn, yardNumbers, yardNumberList};
 use files::Reading;
 use files::yard::MOST_VEHICLES;
 use rating::judging::Judgement;
@@ -44,10 +44,10 @@ fn numbers_of(answer: YardJudged, count: u64) -> YardNumbers
     }
 }
 
-// Writes the first `count` answers into the list, three numbers each; entries beyond are kept.
+// Writes the first `count` answers into the list, three numbers each, without the margin; entries beyond are kept.
 fn put_numbers(list: &mut [u64], answers: [Judgement; MOST_VEHICLES], count: usize)
     requires { ⌜ (count ≤ MOST-VEHICLES) × (length answers ≡ MOST-VEHICLES) × (3 * count ≤ length (now list)) ⌝ }
-    ensures { λ _. ⌜ now (list .exit) ≡ joined (entries (take count answers)) ++ drop (3 * count) (now (list .entry)) ⌝ }
+    ensures { λ _. ⌜ now (list .exit) ≡ numbersIn (entries (take count answers)) ++ drop (3 * count) (now (list .entry)) ⌝ }
 {
     let mut i: usize = 0;
     while i < count {
