@@ -9,7 +9,10 @@ use rating::judging::Verdict;
 use session::Judged;
 use session::Rated;
 use session::yard::YardJudged;
+ghost use mathlib.Core.Path.{_≡_};
 ghost use Prim.Native.Nat.{_≤_};
+ghost use lib.IntN.{pos, natAbs};
+ghost use lib.Signed.{_<ℤ_};
 
 // The longest list of judgements that a script can ask for.
 pub const MOST_JUDGEMENTS: usize = 40;
@@ -28,6 +31,24 @@ pub fn number(n: u64) {
     io::print_decimal(STDOUT_FILENO, n);
 }
 
+// The size of a number below 0. The least number of the type has none in the type, so the sign goes off one less than the size.
+fn size(n: i64) -> u64
+    requires { ⌜ n <ℤ pos 0 ⌝ }
+    ensures { λ r. ⌜ r ≡ natAbs n ⌝ }
+{
+    (-1 - n) as u64 + 1
+}
+
+// A number that may be negative, with its sign then.
+fn signed(n: i64) {
+    if n < 0 {
+        text(b" -");
+        io::print_decimal(STDOUT_FILENO, size(n));
+    } else {
+        number(n as u64);
+    }
+}
+
 fn verdict(v: Verdict) {
     match v {
         Verdict::Pass => text(b" pass"),
@@ -40,6 +61,8 @@ fn judgement(j: Judgement) {
     number(j.governing);
     let v = j.verdict;
     verdict(v);
+    let margin = j.margin;
+    signed(margin);
 }
 
 fn refusal(r: Refusal) {
@@ -64,6 +87,8 @@ pub fn rated(answer: Rated) {
             number(r.load.0);
             let v = r.verdict;
             verdict(v);
+            let margin = r.margin;
+            signed(margin);
             text(b"\n");
         }
         Rated::Refused(r) => refusal(r),

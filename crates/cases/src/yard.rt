@@ -25,6 +25,7 @@ fn known(i: usize) -> Judgement
         figure: KgfPerM(number),
         governing: number,
         verdict: Verdict::Refuse,
+        margin: number as i64,
     }
 }
 
