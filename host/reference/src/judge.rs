@@ -16,22 +16,39 @@ impl Rated {
     pub fn passes(self) -> bool {
         self.vehicle <= self.permitted
     }
+
+    /// "A member's margin is its permitted load minus its vehicle load, and it may be negative."
+    pub fn margin(self) -> i64 {
+        let margin = self.permitted.checked_signed_diff(self.vehicle);
+        margin.expect("the ranges of the files keep both loads below 2^63")
+    }
 }
 
-/// Figure, governing place and verdict of a bridge, with its members' loads.
+/// Figure, governing place and verdict of a bridge, the governing member's margin, and all members'
+/// loads.
 #[derive(Clone, Debug, PartialEq, Eq)]
 pub struct Judged {
     pub figure: u64,
     pub governing: u64,
     pub passes: bool,
+    pub margin: i64,
     pub members: Vec<Rated>,
 }
 
-/// The figure is the least permitted load; the first member that has it governs.
-pub(crate) fn bridge(members: Vec<Rated>) -> Judged {
-    let least = members.iter().zip(1..).min_by_key(|(rated, _)| rated.permitted);
-    let (figure, governing) = least.map_or((0, 0), |(rated, place)| (rated.permitted, place));
-    Judged { figure, governing, passes: members.iter().all(|rated| rated.passes()), members }
+/// "The governing member becomes the one with the least margin, the first on a tie": its place and
+/// margin. Of equal ones `min_by_key` takes the first.
+fn governing(members: &[Rated]) -> (u64, i64) {
+    let margins = members.iter().zip(1..).map(|(rated, place)| (place, rated.margin()));
+    margins.min_by_key(|&(_, margin)| margin).unwrap_or((0, 0))
+}
+
+/// "The bridge's figure remains the least permitted load", whichever member governs. The bridge
+/// passes when every member does.
+pub fn bridge(members: Vec<Rated>) -> Judged {
+    let figure = members.iter().map(|rated| rated.permitted).min().unwrap_or(0);
+    let (governing, margin) = governing(&members);
+    let passes = members.iter().all(|rated| rated.passes());
+    Judged { figure, governing, passes, margin, members }
 }
 
 /// A member's loads in exact fractions, every position tried.

@@ -13,8 +13,8 @@ const MOST_ANSWERS: usize = 40;
 /// The most entries of a list of numbers that it lends.
 const MOST_ENTRIES: usize = 160;
 
-/// Entry i of a lent list holds KNOWN + i.
-const KNOWN: u64 = 1_000_000;
+/// Each number of entry i of a lent list is KNOWN + i.
+const KNOWN: u32 = 1_000_000;
 
 /// The steps so far, what they print, and the session: the files that were taken.
 #[derive(Default)]
@@ -51,7 +51,19 @@ fn number(value: usize) -> [u8; 2] {
 
 /// What a list of so many numbers holds when it is lent.
 fn known_list(entries: usize) -> Vec<u64> {
-    (KNOWN..).take(entries).collect()
+    (KNOWN..).take(entries).map(u64::from).collect()
+}
+
+/// An entry of a list of answers when it is lent.
+fn known_answer(known: u32) -> Answer {
+    let number = u64::from(known);
+    Answer { figure: number, governing: number, passes: false, margin: known.into() }
+}
+
+/// An answer as it stands in a printed list.
+fn entry(answer: &Answer) -> String {
+    let &Answer { figure, governing, passes, margin } = answer;
+    format!(" {figure} {governing} {} {margin}", verdict(passes))
 }
 
 /// Writes from the front of the list; entries beyond are kept.
@@ -125,7 +137,7 @@ impl Script {
         let answer = match self.rated(place) {
             Ok(rated) => {
                 let (permitted, vehicle) = (rated.permitted, rated.vehicle);
-                format!("{permitted} {vehicle} {}", verdict(rated.passes()))
+                format!("{permitted} {vehicle} {} {}", verdict(rated.passes()), rated.margin())
             }
             Err(number) => refused(number, 0),
         };
@@ -150,7 +162,7 @@ impl Script {
                 let loads = judged.members.iter();
                 fill(&mut list, loads.flat_map(|rated| [rated.permitted, rated.vehicle]));
                 let (figure, governing) = (judged.figure, judged.governing);
-                format!("{figure} {governing} {}", verdict(judged.passes))
+                format!("{figure} {governing} {} {}", verdict(judged.passes), judged.margin)
             }
             Err(number) => refused(number, 0),
         };
@@ -178,14 +190,12 @@ impl Script {
         if entries > MOST_ANSWERS {
             return self.print("no list is so long");
         }
-        let known = |known| Answer { figure: known, governing: known, passes: false };
-        let mut list: Vec<Answer> = (KNOWN..).take(entries).map(known).collect();
+        let mut list: Vec<Answer> = (KNOWN..).take(entries).map(known_answer).collect();
         let answer = match self.fill_yard(bytes, &mut list) {
             Ok(passes) => passes.to_string(),
             Err(fault) => refused(fault.number, fault.place),
         };
         self.print(&format!("yard {answer}"));
-        let entry = |a: &Answer| format!(" {} {} {}", a.figure, a.governing, verdict(a.passes));
         let list: String = list.iter().map(entry).collect();
         self.print(&format!("list{list}"));
     }

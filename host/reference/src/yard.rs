@@ -1,14 +1,15 @@
 //! The whole yard in one go, request 3 of document 02: up to 32 vehicles against one bridge.
 
-use crate::judge::judge_members;
+use crate::judge::{judge_members, Judged};
 use crate::reader::{self, File, Member, Refused, Vehicle};
 
-/// The answer for one vehicle.
+/// The answer for one vehicle; the margin is the governing member's.
 #[derive(Clone, Copy, Debug, PartialEq, Eq)]
 pub struct Answer {
     pub figure: u64,
     pub governing: u64,
     pub passes: bool,
+    pub margin: i64,
 }
 
 /// An answer a vehicle, and the number of vehicles that pass.
@@ -54,8 +55,8 @@ pub fn vehicles(yard: &[u8]) -> Result<Vec<Vehicle>, Refused> {
 
 /// "Every answer is that of loading that vehicle alone and judging."
 fn answer(members: &[Member], vehicle: &Vehicle) -> Answer {
-    let judged = judge_members(members, vehicle);
-    Answer { figure: judged.figure, governing: judged.governing, passes: judged.passes }
+    let Judged { figure, governing, passes, margin, .. } = judge_members(members, vehicle);
+    Answer { figure, governing, passes, margin }
 }
 
 /// The call on the loaded survey, where one is loaded, with a list of so many answers: "11 comes

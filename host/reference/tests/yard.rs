@@ -29,13 +29,13 @@ fn heavy() -> Vec<u8> {
     vehicle_bytes(&lorry([4500, 9000]))
 }
 
-/// The answers on case A, as figure, governing place and verdict, and the number of passes; or
-/// number and place of the refusal.
-type Said = Result<(Vec<(u64, u64, bool)>, u64), (u64, u64)>;
+/// The answers on case A, as figure, governing place, verdict and margin, and the number of passes;
+/// or number and place of the refusal.
+type Said = Result<(Vec<(u64, u64, bool, i64)>, u64), (u64, u64)>;
 
 fn said_of(survey: Option<&[Member]>, bytes: &[u8], entries: usize) -> Said {
     let answers = |answers: &[reference::Answer]| {
-        answers.iter().map(|a| (a.figure, a.governing, a.passes)).collect()
+        answers.iter().map(|a| (a.figure, a.governing, a.passes, a.margin)).collect()
     };
     match yard(survey, bytes, entries) {
         Ok(yard) => Ok((answers(&yard.answers), yard.passes)),
@@ -55,7 +55,7 @@ fn with(bytes: &[u8], at: usize, byte: u8) -> Vec<u8> {
 
 #[test]
 fn one_answer_a_vehicle() {
-    let (pass, refuse) = ((1720, 1, true), (1720, 1, false));
+    let (pass, refuse) = ((1720, 1, true, 520), (1720, 1, false, -1880));
     assert_eq!(said(&joined(&[case_l()]), 1), Ok((vec![pass], 1)));
     assert_eq!(said(&joined(&[heavy()]), 1), Ok((vec![refuse], 0)));
     let mixed = joined(&[heavy(), case_l(), heavy(), case_l(), case_l()]);
@@ -69,9 +69,26 @@ fn one_answer_a_vehicle() {
 fn each_vehicle_has_its_own_figure() {
     let tractor = vehicle_bytes(&VehicleWords { class: 1, ..lorry([1500, 3000]) });
     let two = said(&joined(&[case_l(), tractor]), 2);
-    assert_eq!(two, Ok((vec![(1720, 1, true), (2189, 1, true)], 2)));
+    assert_eq!(two, Ok((vec![(1720, 1, true, 520), (2189, 1, true, 989)], 2)));
     let worn = said_of(Some(&bridge(&stringer(1))), &joined(&[case_l()]), 1);
-    assert_eq!(worn, Ok((vec![(1343, 1, true)], 1)));
+    assert_eq!(worn, Ok((vec![(1343, 1, true, 143)], 1)));
+}
+
+/// Case A before case F under one axle: 1720 − 0.4w and 1939 − 0.5w, the same for 2190 kgf. The
+/// margin is the governing member's, not the first one's.
+#[test]
+fn each_vehicle_has_its_own_governing_member() {
+    let mut beam = [0u16; 16];
+    beam[..11].copy_from_slice(&[2, 1, 300, 0, 200, 0, 100, 1, 24, 0, 1]);
+    let survey = [&stringer(0)[..], &survey_bytes(&[beam])[6..]].concat();
+    let survey = bridge(&with(&survey, 5, 2));
+    let axle = |weight| VehicleWords { axles: vec![[weight, 0]], ..lorry([0, 0]) };
+    let yard = yard_bytes(&[1000, 2190, 3000, 4300, 9000, 1].map(axle));
+    let of_first = |margin| (1720, 1, true, margin);
+    let of_second = |passes, margin| (1720, 2, passes, margin);
+    let light = [of_first(1320), of_first(844), of_second(true, 439)];
+    let heavy = [of_second(false, -211), of_second(false, -2561), of_first(1719)];
+    assert_eq!(said_of(Some(&survey), &yard, 6), Ok(([light, heavy].concat(), 4)));
 }
 
 /// The missing count byte, a count outside 1 to 32.
@@ -133,7 +150,7 @@ fn lists() {
         assert_eq!(said(&three, entries), Err((14, 0)), "{entries} entries");
     }
     for entries in [3, 4, 40] {
-        assert_eq!(said(&three, entries), Ok((vec![(1720, 1, true); 3], 3)));
+        assert_eq!(said(&three, entries), Ok((vec![(1720, 1, true, 520); 3], 3)));
     }
 }
 
@@ -194,8 +211,8 @@ fn each_answer_is_that_of_the_vehicle_alone() {
         assert_eq!(answer.answers.len(), vehicles.len());
         for (answer, vehicle) in answer.answers.iter().zip(&vehicles) {
             let alone = judge(&survey, &vehicle_bytes(vehicle)).expect("a sound pair");
-            let alone = (alone.figure, alone.governing, alone.passes);
-            assert_eq!((answer.figure, answer.governing, answer.passes), alone);
+            let alone = (alone.figure, alone.governing, alone.passes, alone.margin);
+            assert_eq!((answer.figure, answer.governing, answer.passes, answer.margin), alone);
         }
         let passes = answer.answers.iter().filter(|answer| answer.passes).count();
         assert_eq!(u64::try_from(passes).ok(), Some(answer.passes), "seed {SEED:#x}, {round}");
