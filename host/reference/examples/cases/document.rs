@@ -1,19 +1,8 @@
-//! The document's own cases, ties and verdicts.
+//! The document's own cases, and which member governs.
 
 use crate::records::*;
 use reference::layout::*;
 use reference::script::Script;
-
-fn chord() -> Words {
-    let words = with([0; 16], &[(KIND, 3), (SPECIES, 1), (SPAN, 1000), (SPACING, 500)]);
-    let words = with(words, &[(FROM_SUPPORT, 200), (TRUSS_HEIGHT, 150), (DEAD_LOAD, 500)]);
-    with(words, &[(SECTION, 2), (S1, 5), (S2, 20), (S5, 4)])
-}
-
-fn cross_beam() -> Words {
-    let words = with([0; 16], &[(KIND, 2), (SPECIES, 1), (SPAN, 300), (FROM_SUPPORT, 200)]);
-    with(words, &[(DEAD_LOAD, 100), (SECTION, 1), (S1, 24), (S3, 1)])
-}
 
 fn letters(script: &mut Script) {
     script.start();
@@ -35,7 +24,7 @@ fn letters(script: &mut Script) {
     }
 }
 
-/// The least permitted load governs, the first on a tie, and not the least margin.
+/// The least margin governs, the first on a tie, and not the least permitted load.
 fn governing(script: &mut Script) {
     script.start();
     script.vehicle(&vehicle_of(&case_l()));
@@ -44,7 +33,7 @@ fn governing(script: &mut Script) {
         ("a tie: the first governs", vec![sound, worn, worn]),
         ("a tie at the front", vec![worn, worn, sound]),
         ("the last governs", vec![sound, worn, worst]),
-        ("least load, not least margin", vec![chord(), cross_beam(), sound]),
+        ("least margin, not least load", vec![chord(), cross_beam(), sound]),
         ("one member that refuses", vec![sound, worst, sound]),
     ];
     for (title, members) in bridges {

@@ -7,6 +7,7 @@ mod close_stringers;
 mod crescents;
 mod document;
 mod edges;
+mod margins;
 mod records;
 mod state;
 mod survey_faults;
@@ -27,6 +28,7 @@ fn script() -> Script {
     crescents::cases(&mut script);
     close_stringers::cases(&mut script);
     yard::cases(&mut script);
+    margins::cases(&mut script);
     between::cases(&mut script);
     script
 }

@@ -75,6 +75,19 @@ pub fn stringer(rot: u16) -> Words {
     )
 }
 
+/// Case E: 6084 kgf/m.
+pub fn chord() -> Words {
+    let words = with([0; 16], &[(KIND, 3), (SPECIES, 1), (SPAN, 1000), (SPACING, 500)]);
+    let words = with(words, &[(FROM_SUPPORT, 200), (TRUSS_HEIGHT, 150), (DEAD_LOAD, 500)]);
+    with(words, &[(SECTION, 2), (S1, 5), (S2, 20), (S5, 4)])
+}
+
+/// Case F: 1939 kgf/m.
+pub fn cross_beam() -> Words {
+    let words = with([0; 16], &[(KIND, 2), (SPECIES, 1), (SPAN, 300), (FROM_SUPPORT, 200)]);
+    with(words, &[(DEAD_LOAD, 100), (SECTION, 1), (S1, 24), (S3, 1)])
+}
+
 /// Class 0, track 190, these axles: weight and distance from the axle in front.
 pub fn lorry(axles: &[[u16; 2]]) -> VehicleWords {
     VehicleWords { class: 0, track: 190, axles: axles.to_vec() }

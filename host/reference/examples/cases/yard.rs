@@ -31,8 +31,8 @@ fn long(weight: u16, apart: u16) -> Vec<u8> {
     vehicle_of(&lorry(&axles))
 }
 
-/// A stringer, whose figure rises with the track, and two cross beams alike, for which the track
-/// is nothing: which of them governs is the vehicle's.
+/// A stringer, whose permitted load rises with the track, and two cross beams alike, for which the
+/// track is nothing: which of them governs is the vehicle's.
 fn two_governors() -> Vec<Words> {
     let stringer = with(usual(1, 1), &[(SPACING, 300), (SPAN, 500)]);
     let beam = with(usual(2, 1), &[(SPAN, 450), (FROM_SUPPORT, 320)]);
