@@ -13,8 +13,8 @@ fn stringer(rot: u16) -> Member {
     Member { kind: 1, l: 500, d: 140, q: 100, code: 1, s: [28, rot, 1, 0, 0, 0], ..NOTHING }
 }
 
-/// Case E with this lost area: 6084 kgf/m for none; 280 cm² leave 30 × 120 of its 30 × 400 in
-/// front, and (3,600,000 − 960,000) / 181,440 is 14.55 kgf/cm.
+/// Case E with this lost area: 6084 kgf/m for none. 280 cm² leave F = 120, and
+/// (200 × 150 × 120 − 960,000) / 181,440 is 14.55 kgf/cm.
 fn chord(lost: u16) -> Member {
     let s = [5, 20, 0, 0, 4, lost];
     Member { kind: 3, l: 1000, d: 500, x: 200, h: 150, q: 500, code: 2, s, ..NOTHING }
@@ -80,7 +80,7 @@ fn the_member_with_the_figure_need_not_govern() {
 #[test]
 fn a_long_span_with_a_low_figure() {
     let long = Member { l: 1000, s: [39, 0, 1, 0, 0, 0], ..stringer(0) };
-    assert_eq!(under(&[long.clone(), cross_beam()], 5000), (1106, 2, false, 1939 - 2500));
+    assert_eq!(under(&[long, cross_beam()], 5000), (1106, 2, false, 1939 - 2500));
     assert_eq!(under(&[cross_beam(), long], 5000), (1106, 1, false, -561));
 }
 
@@ -107,13 +107,10 @@ fn which_member_governs_is_the_vehicles() {
 fn the_first_governs_on_a_tie_of_unlike_members() {
     let [stringer, beam, chord] = [stringer(0), cross_beam(), chord(280)];
     // 1720 − 876 and 1939 − 1095.
-    assert_eq!(under(&[stringer.clone(), beam.clone()], 2190), (1720, 1, true, 844));
-    assert_eq!(under(&[beam.clone(), stringer.clone()], 2190), (1720, 1, true, 844));
+    assert_eq!(under(&[stringer, beam], 2190), (1720, 1, true, 844));
+    assert_eq!(under(&[beam, stringer], 2190), (1720, 1, true, 844));
     // 1720 − 530 and 1455 − 265, behind a member with 1939 − 663.
-    assert_eq!(
-        under(&[beam.clone(), stringer.clone(), chord.clone()], 1325),
-        (1455, 2, true, 1190)
-    );
+    assert_eq!(under(&[beam, stringer, chord], 1325), (1455, 2, true, 1190));
     assert_eq!(under(&[beam, chord, stringer], 1325), (1455, 2, true, 1190));
     assert_eq!(of_loads(&[[900, 380], [1720, 1200], [520, 0]]), (520, 1, true, 520));
     assert_eq!(of_loads(&[[10, 110], [0, 100], [200, 300]]), (0, 1, false, -100));
@@ -180,4 +177,26 @@ fn the_governing_member_of_any_bridge() {
         below += u32::from(judged.margin < 0);
     }
     assert!(apart > 100 && (200..1800).contains(&below), "{apart} apart, {below} below 0");
+}
+
+/// Do members with this margin differ in their permitted loads?
+fn unlike(judged: &Judged) -> bool {
+    let tied = judged.members.iter().filter(|rated| rated.margin() == judged.margin);
+    let permitted: std::collections::BTreeSet<u64> = tied.map(|rated| rated.permitted).collect();
+    permitted.len() > 1
+}
+
+#[test]
+fn the_governing_member_of_bridges_at_a_tie() {
+    const SEED: u64 = 0x3a61_0002;
+    let mut random = Random::new(SEED);
+    let (mut ties, mut below) = (0, 0);
+    for round in 0..2000 {
+        let Some((survey, vehicle)) = at_a_tie(&mut random) else { continue };
+        let judged = judge(&survey, &vehicle_bytes(&vehicle)).expect("a sound pair");
+        hold(&judged, &format!("seed {SEED:#x}, round {round}"));
+        ties += u32::from(unlike(&judged));
+        below += u32::from(unlike(&judged) && judged.margin < 0);
+    }
+    assert!(ties > 300 && below > 50 && ties - below > 50, "{ties} ties, {below} below 0");
 }
