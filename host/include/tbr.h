@@ -20,7 +20,8 @@ extern "C" {
 #endif
 
 /*
- * What a judgement gives. Loads are in kgf/m, places are from 1.
+ * What a judgement gives. Loads are in kgf/m, places are from 1. A member's margin is its permitted
+ * load minus its vehicle load, and may be negative.
  *
  * Where a file is refused, refusal is its number and place its member or axle, 0 where the fault is
  * in none, and the rest is 0; the survey's refusal comes before the vehicle's:
@@ -32,7 +33,7 @@ struct tbr_numbers {
     uint64_t refusal;
     uint64_t place;
     uint64_t figure;    /* the least permitted load */
-    uint64_t governing; /* the place of the first member that has it */
+    uint64_t governing; /* the place of the member with the least margin, the first on a tie */
     uint64_t passes;    /* 1 the bridge passes, 0 it does not */
 };
 

@@ -43,7 +43,8 @@ extern "C" {
 pub struct Judgement {
     /// The bridge's figure: the least permitted load of its members, kgf/m.
     pub figure: u64,
-    /// The place, from 1, of the member that has the figure; the first on a tie.
+    /// The place, from 1, of the member with the least margin, the first on a tie. It need not be
+    /// one that has the figure.
     pub governing: u64,
     /// Does every member bear its vehicle load?
     pub passes: bool,
@@ -60,6 +61,19 @@ pub struct MemberLoads {
     pub vehicle: u64,
     /// Is the second at most the first?
     pub passes: bool,
+}
+
+impl MemberLoads {
+    /// Permitted load minus vehicle load, kgf/m: below 0 just where the member is refused. The
+    /// member with the least margin governs.
+    ///
+    /// # Panics
+    /// Where the difference is outside an `i64`. The library's loads are far from that: by the
+    /// ranges of the files none is above 4 × 10¹³.
+    pub fn margin(&self) -> i64 {
+        let margin = self.permitted.checked_signed_diff(self.vehicle);
+        margin.expect("the loads of files differ by less than 2^63")
+    }
 }
 
 /// A survey and a vehicle that are taken, to ask about the other file alone: a log stringer, and

@@ -1,9 +1,10 @@
 //! Timber bridge rating after VSN 12-73: a safe wrapper over the proved judgement.
 //!
 //! [`judge`] takes the bytes of a survey file and a vehicle file and gives the bridge's figure,
-//! the governing member and the verdict, or the refusal of a file; [`member_loads`] gives the two
-//! loads of every member, and [`judge_yard`] judges up to 32 vehicles, joined to a yard by
-//! [`file::join_yard`]. Each is a call of the proved library; no load is worked out here.
+//! which is the least permitted load, the governing member, which is the one with the least margin,
+//! and the verdict, or the refusal of a file; [`member_loads`] gives the two loads of every member,
+//! and [`judge_yard`] judges up to 32 vehicles, joined to a yard by [`file::join_yard`]. Each is a
+//! call of the proved library; no load is worked out here.
 //!
 //! ```
 //! let survey = include_bytes!("../../samples/case-a.tbr");

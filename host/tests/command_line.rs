@@ -10,8 +10,8 @@ use tbr::form::{Field, Value, AXLE, HEADING, KINDS, SECTIONS};
 fn a_bridge_that_passes() {
     let (status, table, _) = run(&["judge", "case-a.tbr", "case-l.tbv"]);
     let expected = "\
-place  member          permitted kgf/m  vehicle kgf/m      used  verdict
-    1  stringer                   1720           1200      70 %  pass
+place  member          permitted kgf/m  vehicle kgf/m  margin kgf/m      used  verdict
+    1  stringer                   1720           1200           520      70 %  pass
 
 figure     1720 kgf/m
 governing  member 1, stringer
@@ -24,10 +24,51 @@ verdict    pass
 fn a_bridge_that_is_refused() {
     let (status, table, _) = run(&["judge", "case-a.tbr", "lorry.tbv"]);
     assert_eq!(status, 1);
-    assert!(
-        table.contains("    1  stringer                   1720           2780     162 %  refuse")
-    );
+    let row =
+        "\n    1  stringer                   1720           2780         -1060     162 %  refuse\n";
+    assert!(table.contains(row), "{table}");
     assert!(table.ends_with("\nverdict    refuse: member 1\n"), "{table}");
+}
+
+/// Case A with a cross beam, case F, behind it.
+const STRINGER_AND_BEAM: &str = "survey
+stringer, species pine, span 500 cm, spacing 140 cm, dead load 100 kgf/m, \
+section log, diameter 28 cm, rot 0 cm, tiers 1
+cross beam, species pine, truss spacing 300 cm, panel length 200 cm, dead load 100 kgf/m, \
+section log, diameter 24 cm, rot 0 cm, tiers 1
+";
+
+/// The stringer has the figure, and the cross beam has the least margin: it governs, wherever it is
+/// named. The margin stands in the table alone.
+#[test]
+fn the_least_margin_governs() {
+    let folder = Folder::new("least-margin");
+    let survey = folder.file("bridge.txt", STRINGER_AND_BEAM);
+    let axle = "vehicle, class lorry, track 190 cm\naxle, weight 4300 kgf, distance 0 cm\n";
+    let vehicle = folder.file("axle.txt", axle);
+    let (status, table, _) = run(&["judge", &survey, &vehicle]);
+    let expected = "\
+place  member          permitted kgf/m  vehicle kgf/m  margin kgf/m      used  verdict
+    1  stringer                   1720           1720             0     100 %  pass
+    2  cross beam                 1939           2150          -211     111 %  refuse
+
+figure     1720 kgf/m
+governing  member 2, cross beam
+verdict    refuse: member 2
+";
+    assert_eq!((status, table.as_str()), (1, expected));
+    let (_, csv, _) = run(&["judge", "--csv", &survey, &vehicle]);
+    assert!(csv.ends_with(",refuse,1720,2,cross beam,2,,,,\n"), "{csv}");
+    let (_, json, _) = run(&["judge", "--json", &survey, &vehicle]);
+    assert!(json.contains("\"figure\": 1720, \"governing\": 2, \"refusing\": [2]"), "{json}");
+    assert!(!json.contains("\"margin\""), "{json}");
+    let yard = folder.path("one.tby");
+    assert_eq!(run(&["make", "--yard", &vehicle, &yard]).0, 0);
+    let (_, table, _) = run(&["yard", &survey, &yard]);
+    assert!(
+        table.contains("\n      1          1720  2, cross beam       refuse: member 2\n"),
+        "{table}"
+    );
 }
 
 #[test]
@@ -38,7 +79,9 @@ fn all_kinds_by_name() {
     {
         assert!(table.contains(kind), "{kind}: {table}");
     }
-    assert!(table.contains("governing  member 7, steel plates"), "{table}");
+    // The steel plates have the figure.
+    let figure = "\nfigure     2916 kgf/m\ngoverning  member 1, stringer\n";
+    assert!(table.contains(figure), "{table}");
 }
 
 #[test]
@@ -49,9 +92,9 @@ fn a_member_that_bears_nothing_has_no_share() {
     assert_eq!(run(&["make", &rotten, &survey]).0, 0);
     let (status, table, _) = run(&["judge", &survey, "case-l.tbv"]);
     assert_eq!(status, 1);
-    assert!(
-        table.contains("    1  stringer                      0           1200         -  refuse")
-    );
+    let row =
+        "\n    1  stringer                      0           1200         -1200         -  refuse\n";
+    assert!(table.contains(row), "{table}");
 }
 
 #[test]

@@ -6,16 +6,16 @@ mod check;
 use check::{fit, fit_yard};
 use tbr::{Judgement, MemberLoads, YardJudgement};
 
-/// Three members; the second governs, the third has as small a permitted load and refuses.
+/// Permitted and vehicle load of a member.
+fn loads(place: u64, permitted: u64, vehicle: u64) -> MemberLoads {
+    MemberLoads { place, permitted, vehicle, passes: vehicle <= permitted }
+}
+
+/// Three members: the first has the figure, the second governs, the third has as small a margin;
+/// both refuse.
 fn right() -> (Judgement, Vec<MemberLoads>) {
-    let loads = |place, permitted, vehicle| MemberLoads {
-        place,
-        permitted,
-        vehicle,
-        passes: vehicle <= permitted,
-    };
     let judgement = Judgement { figure: 900, governing: 2, passes: false };
-    (judgement, vec![loads(1, 1720, 1720), loads(2, 900, 800), loads(3, 900, 901)])
+    (judgement, vec![loads(1, 900, 900), loads(2, 1720, 1721), loads(3, 950, 951)])
 }
 
 /// What is said of the right answers with one thing changed.
@@ -29,8 +29,8 @@ fn said(change: impl Fn(&mut Judgement, &mut Vec<MemberLoads>)) -> String {
 fn right_answers_fit() {
     let (judgement, members) = right();
     assert_eq!(fit(3, &judgement, &members), Ok(()));
-    let passing = Judgement { figure: 900, governing: 2, passes: true };
-    assert_eq!(fit(2, &passing, &members[..2]), Ok(()));
+    let passing = Judgement { figure: 900, governing: 1, passes: true };
+    assert_eq!(fit(1, &passing, &members[..1]), Ok(()));
 }
 
 #[test]
@@ -63,22 +63,54 @@ fn the_figure() {
     for figure in [0, 899, 901, 1720] {
         assert!(said(|judgement, _| judgement.figure = figure).ends_with("the figure"));
     }
-    assert!(said(|_, members| members[1].permitted = 850).ends_with("the figure"));
+    assert!(said(|_, members| members[2].permitted = 850).ends_with("the figure"));
 }
 
-/// The first that has the figure, and no other.
+/// The first that has the least margin, and no other: not the one with the figure.
 #[test]
 fn the_governing_member() {
     for governing in [0, 1, 3, 4] {
         let words = said(|judgement, _| judgement.governing = governing);
         assert!(words.ends_with("the governing member"), "{words}");
     }
+    // Margins 520 and 439: the second governs, and the first has the figure.
+    let members = [loads(1, 1720, 1200), loads(2, 1939, 1500)];
+    let judgement = |governing| Judgement { figure: 1720, governing, passes: true };
+    assert_eq!(fit(2, &judgement(2), &members), Ok(()));
+    let words = fit(2, &judgement(1), &members).unwrap_err();
+    assert!(words.ends_with("the governing member"), "{words}");
+}
+
+/// Of margins below 0 the one farthest from it.
+#[test]
+fn the_governing_member_of_those_that_refuse() {
+    let members = [loads(1, 1720, 3600), loads(2, 1939, 4500), loads(3, 1455, 1800)];
+    for governing in 1..=3 {
+        let judgement = Judgement { figure: 1455, governing, passes: false };
+        assert_eq!(fit(3, &judgement, &members).is_ok(), governing == 2, "member {governing}");
+    }
+}
+
+#[test]
+fn margins() {
+    for (permitted, vehicle, margin) in [(1720, 1200, 520), (900, 900, 0), (0, 17, -17)] {
+        assert_eq!(loads(1, permitted, vehicle).margin(), margin);
+    }
+    let far = 1 << 63;
+    assert_eq!(loads(1, far - 1, 0).margin(), i64::MAX);
+    assert_eq!(loads(1, 0, far).margin(), i64::MIN);
+    for (permitted, vehicle) in [(far, 0), (0, far + 1)] {
+        let judgement = Judgement { figure: permitted, governing: 1, passes: vehicle == 0 };
+        let words = fit(1, &judgement, &[loads(1, permitted, vehicle)]).unwrap_err();
+        assert!(words.ends_with("a member's margin"), "{words}");
+    }
 }
 
 #[test]
 fn the_verdict() {
     assert!(said(|judgement, _| judgement.passes = true).ends_with("the verdict"));
-    let words = said(|_, members| (members[2].vehicle, members[2].passes) = (900, true));
+    let refused = Judgement { figure: 900, governing: 1, passes: false };
+    let words = fit(1, &refused, &[loads(1, 900, 900)]).unwrap_err();
     assert!(words.ends_with("the verdict"), "{words}");
 }
 

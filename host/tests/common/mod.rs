@@ -29,17 +29,21 @@ fn rated(loads: &MemberLoads, place: u64) -> Rated {
     let &MemberLoads { permitted, vehicle, .. } = loads;
     let rated = Rated { permitted, vehicle };
     assert_eq!((loads.place, loads.passes), (place, rated.passes()), "{loads:?}");
+    assert_eq!(loads.margin(), rated.margin(), "{loads:?}");
     rated
 }
 
-/// The answers of both of the library's functions, in the reference's terms.
+/// The answers of both of the library's functions, in the reference's terms. They have no margin:
+/// it is that of the loads at the governing place.
 pub fn library(survey: &[u8], vehicle: &[u8]) -> Result<Judged, Refused> {
     let judged = tbr::judge(survey, vehicle).map_err(refused);
     let loads = tbr::member_loads(survey, vehicle).map_err(refused);
     match (judged, loads) {
         (Ok(Judgement { figure, governing, passes }), Ok(loads)) => {
+            let at_place = |loads: &&MemberLoads| loads.place == governing;
+            let margin = loads.iter().find(at_place).expect("a member of the bridge").margin();
             let members = loads.iter().zip(1..).map(|(loads, place)| rated(loads, place)).collect();
-            Ok(Judged { figure, governing, passes, members })
+            Ok(Judged { figure, governing, passes, margin, members })
         }
         (Err(refused), Err(other)) if refused == other => Err(refused),
         (judged, loads) => panic!("one function refuses, the other not: {judged:?}, {loads:?}"),

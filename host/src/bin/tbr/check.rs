@@ -22,8 +22,14 @@ pub fn fit(count: usize, judgement: &Judgement, members: &[MemberLoads]) -> Resu
     if least != Some(figure) {
         return differ("the figure");
     }
-    let first = members.iter().find(|member| member.permitted == figure);
-    if first.map(|member| member.place) != Some(governing) {
+    // No files have loads so far apart that their difference is not a margin.
+    let margin = |member: &MemberLoads| member.permitted.checked_signed_diff(member.vehicle);
+    if members.iter().any(|member| margin(member).is_none()) {
+        return differ("a member's margin");
+    }
+    // The least margin, and of equal ones the first, as `min_by_key` has it.
+    let worst = members.iter().min_by_key(|member| member.margin());
+    if worst.map(|member| member.place) != Some(governing) {
         return differ("the governing member");
     }
     if passes != members.iter().all(|member| member.passes) {

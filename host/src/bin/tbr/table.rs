@@ -4,15 +4,20 @@ use crate::judge::{verdict, Judged, Report, Row};
 use crate::yard::YardReport;
 use tbr::MemberLoads;
 
-fn line([place, member, permitted, vehicle, used, verdict]: [&str; 6]) -> String {
-    format!("{place:>5}  {member:<14}  {permitted:>15}  {vehicle:>13}  {used:>8}  {verdict}\n")
+const HEADING: [&str; 7] =
+    ["place", "member", "permitted kgf/m", "vehicle kgf/m", "margin kgf/m", "used", "verdict"];
+
+fn line([place, member, permitted, vehicle, margin, used, verdict]: [&str; 7]) -> String {
+    let loads = format!("{permitted:>15}  {vehicle:>13}  {margin:>12}");
+    format!("{place:>5}  {member:<14}  {loads}  {used:>8}  {verdict}\n")
 }
 
 fn row(row: &Row) -> String {
     let MemberLoads { place, permitted, vehicle, passes } = row.loads;
     let used = row.share_used().map_or("-".to_string(), |share| format!("{share} %"));
     let [place, permitted, vehicle] = [place, permitted, vehicle].map(|n| n.to_string());
-    line([&place, row.kind, &permitted, &vehicle, &used, verdict(passes)])
+    let margin = row.loads.margin().to_string();
+    line([&place, row.kind, &permitted, &vehicle, &margin, &used, verdict(passes)])
 }
 
 /// The members that refuse, by place; nothing where none does.
@@ -26,13 +31,12 @@ fn by_whom(refusing: &[u64]) -> String {
 }
 
 fn table(judged: &Judged) -> String {
-    let heading = ["place", "member", "permitted kgf/m", "vehicle kgf/m", "used", "verdict"];
     let rows: String = judged.rows.iter().map(row).collect();
     let (judgement, kind) = (&judged.judgement, judged.governing_kind());
     let (word, whom) = (verdict(judgement.passes), by_whom(&judged.refusing()));
     format!(
         "{}{rows}\nfigure     {} kgf/m\ngoverning  member {}, {kind}\nverdict    {word}{whom}\n",
-        line(heading),
+        line(HEADING),
         judgement.figure,
         judgement.governing,
     )
