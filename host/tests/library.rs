@@ -5,6 +5,7 @@ mod common;
 
 use common::{expected, library, seed};
 use reference::generate::*;
+use reference::Judged;
 use std::collections::BTreeMap;
 
 const PAIRS: u64 = 100_000;
@@ -29,14 +30,22 @@ fn pair(random: &mut Random) -> (Vec<u8>, Vec<u8>) {
     (survey, vehicle_bytes(&vehicle(random, spread, axles)))
 }
 
+/// Is the least permitted load another member's than the governing one's?
+fn governs_without_the_figure(judged: &Judged) -> bool {
+    let place = usize::try_from(judged.governing).expect("a place");
+    judged.members[place - 1].permitted != judged.figure
+}
+
 #[test]
 fn the_library_answers_as_the_reference() {
     let first = seed(0x7b2_0001);
     let mut seen: BTreeMap<String, u64> = BTreeMap::new();
+    let mut apart = 0;
     for seed in first..first + PAIRS {
         let (survey, vehicle) = pair(&mut Random::new(seed));
         let answer = library(&survey, &vehicle);
         assert_eq!(answer, expected(&survey, &vehicle), "TBR_SEED={seed}");
+        apart += u32::from(answer.as_ref().is_ok_and(governs_without_the_figure));
         let what = match answer {
             Ok(judged) if judged.figure == 0 => "figure 0".to_string(),
             Ok(judged) => format!("passes {}", judged.passes),
@@ -52,6 +61,23 @@ fn the_library_answers_as_the_reference() {
     for what in usual.into_iter().chain(refusals) {
         assert!(seen.get(&what).copied().unwrap_or(0) >= 20, "{what} is rare: {seen:?}");
     }
+    assert!(apart >= 2000, "the governing member has not the figure in {apart} pairs");
+}
+
+/// Two members or more with the least margin: the first of them governs, whatever their loads.
+#[test]
+fn the_first_governs_on_a_tie() {
+    let first = seed(0x7b2_0006);
+    let (mut ties, mut apart) = (0, 0);
+    for seed in first..first + 20_000 {
+        let Some((survey, vehicle)) = at_a_tie(&mut Random::new(seed)) else { continue };
+        let vehicle = vehicle_bytes(&vehicle);
+        let answer = library(&survey, &vehicle);
+        assert_eq!(answer, expected(&survey, &vehicle), "TBR_SEED={seed}");
+        ties += 1;
+        apart += u32::from(answer.as_ref().is_ok_and(governs_without_the_figure));
+    }
+    assert!(ties > 1000 && apart > 200, "{ties} ties, in {apart} another has the figure");
 }
 
 /// The heaviest vehicle that passes, and 1 kgf more on one axle: verdicts as the reference has them.

@@ -100,16 +100,26 @@ fn entries(random: &mut Random, yard: &[u8]) -> usize {
     }
 }
 
+/// Does one member govern for one vehicle, and another for another?
+fn several_govern((numbers, list): &(Numbers, Vec<u64>)) -> bool {
+    let vehicles = usize::try_from(numbers.vehicles).expect("at most 32");
+    let mut governing = list.chunks_exact(3).take(vehicles).map(|answer| answer[1]);
+    let first = governing.next();
+    governing.any(|place| Some(place) != first)
+}
+
 #[test]
 fn the_library_answers_as_the_reference() {
     let first = seed(0x9a4d_2001);
     let mut seen: BTreeMap<String, u64> = BTreeMap::new();
+    let mut several = 0;
     for seed in first..first + 40_000 {
         let random = &mut Random::new(seed);
         let (survey, yard) = input(random);
         let entries = entries(random, &yard);
         let answer = library(&survey, &yard, entries);
         assert_eq!(answer, expected(&survey, &yard, entries), "TBR_SEED={seed}");
+        several += u32::from(several_govern(&answer));
         let what = match answer.0 {
             Numbers { refusal: 0, passes: 0, .. } => "none passes".to_string(),
             Numbers { refusal: 0, vehicles, passes, .. } if passes == vehicles => "all".to_string(),
@@ -123,6 +133,7 @@ fn the_library_answers_as_the_reference() {
     for what in numbers {
         assert!(seen.get(what).copied().unwrap_or(0) >= 20, "{what} is rare: {seen:?}");
     }
+    assert!(several >= 300, "different members govern in {several} yards");
 }
 
 /// One damage in each way at each place of a yard of 32 vehicles.
