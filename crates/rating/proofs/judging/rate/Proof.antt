@@ -17,7 +17,7 @@ verdict-of-requires : tie.Need-verdict-of-requires
 verdict-of-requires c κs = search needs
 
 margin-of-requires : tie.Need-margin-of-requires
-margin-of-requires c κs = (c .before .before .permitted-load .ensures .1, c .before .vehicle-load-on .ensures .1)
+margin-of-requires c κs = search needs
 
 returns : tie.Need-returns
 returns c =
