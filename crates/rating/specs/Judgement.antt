@@ -22,8 +22,8 @@ abbrev pub verdictOf : (passes : Bool) → Verdict
 verdictOf true = Pass
 verdictOf false = Refuse
 
--- The least that f gives over the members, by a test of at most: of permitted loads, and of margins, which may be negative. Where there are
--- no members it is none.
+-- The least that f gives over the members by a test of at most, `leb` of permitted loads and `leZ` of margins, which may be negative; `none`
+-- where there are no members.
 module _ {A : Type 0} (atMost : A → A → Bool) where
   abbrev pub lesser : A → A → A
   lesser a b = choose (atMost a b) a b

@@ -49,7 +49,7 @@ fn verdict_of(load: KgfPerM, permitted: KgfPerM) -> Verdict
     }
 }
 
-// The margin, below 0 where the vehicle load is above the permitted load.
+// The margin, below 0 where the vehicle load is above the permitted load. Both are below 2^63, so the difference fits.
 fn margin_of(permitted: KgfPerM, load: KgfPerM) -> i64
     requires { ⌜ (permitted .0 < 2 ^ 63) × (load .0 < 2 ^ 63) ⌝ }
     ensures { λ r. ⌜ r ≡ pos (permitted .0) -ℤ pos (load .0) ⌝ }
