@@ -10,8 +10,8 @@ use tbr::form::{Field, Value, AXLE, HEADING, KINDS, SECTIONS};
 fn a_bridge_that_passes() {
     let (status, table, _) = run(&["judge", "case-a.tbr", "case-l.tbv"]);
     let expected = "\
-place  member          permitted kgf/m  vehicle kgf/m  margin kgf/m      used  verdict
-    1  stringer                   1720           1200           520      70 %  pass
+place  member          permitted kgf/m  vehicle kgf/m    margin kgf/m      used  verdict
+    1  stringer                   1720           1200             520      70 %  pass
 
 figure     1720 kgf/m
 governing  member 1, stringer
@@ -48,9 +48,9 @@ fn the_least_margin_governs() {
     let vehicle = folder.file("axle.txt", axle);
     let (status, table, _) = run(&["judge", &survey, &vehicle]);
     let expected = "\
-place  member          permitted kgf/m  vehicle kgf/m  margin kgf/m      used  verdict
-    1  stringer                   1720           1720             0     100 %  pass
-    2  cross beam                 1939           2150          -211     111 %  refuse
+place  member          permitted kgf/m  vehicle kgf/m    margin kgf/m      used  verdict
+    1  stringer                   1720           1720               0     100 %  pass
+    2  cross beam                 1939           2150            -211     111 %  refuse
 
 figure     1720 kgf/m
 governing  member 2, cross beam

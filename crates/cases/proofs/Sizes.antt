@@ -1,7 +1,7 @@
 -- A signed number as the machine holds it: what -1 less one below 0 is, and that one that is not below 0 is the same without a sign.
 -- Assumes nothing.
-use Prim.Native.Nat.{ℕ, suc, _+_, _-_, _^_, _≤_, _<_}
-use mathlib.Core.Path.{_≡_, ap, _∙_}
+use Prim.Native.Nat.{ℕ, suc, _+_, _^_, _<_}
+use mathlib.Core.Path.{_≡_, ap}
 use mathlib.Core.Bool.{false, true≢false}
 use native.Mathlib.Omega.{arith}
 use lib.Dec.{T, ltb→lt}
@@ -36,7 +36,7 @@ below (negsuc k) f h =
       },
     )
 
--- a number that is not below 0 is the same without a sign
+-- of one that is not below 0
 plain : (n : ℤ) → SFits w64 n → ltZ n (pos 0) ≡ false → (T (nonNeg n)) × (Fits w64 (natAbs n))
 plain (pos a) f e = (tt, record { fits = omega (arith, f .sfits) })
 plain (negsuc a) f e = absurd (true≢false e)

@@ -31,7 +31,7 @@ pub fn number(n: u64) {
     io::print_decimal(STDOUT_FILENO, n);
 }
 
-// The size of a number below 0. The least number of the type has none in the type, so the sign goes off one less than the size.
+// The size of a number below 0. That of the least i64 fits no i64, so the sign is taken off one less.
 fn size(n: i64) -> u64
     requires { ⌜ n <ℤ pos 0 ⌝ }
     ensures { λ r. ⌜ r ≡ natAbs n ⌝ }

@@ -15,13 +15,13 @@ use Rattle.exports.specs.YardNumbers.{numbersIn}
 abbrev pub rows : List Judgement → List ℕ → ℕ → List ℕ
 rows js list i = numbersIn (entries (take i js)) ++ drop (3 * i) list
 
-joined-length : (js : List Judgement) → length (numbersIn (entries js)) ≡ 3 * length js
-joined-length [] = refl
-joined-length (j ∷ js) = omega (arith, joined-length js)
+numbers-length : (js : List Judgement) → length (numbersIn (entries js)) ≡ 3 * length js
+numbers-length [] = refl
+numbers-length (j ∷ js) = omega (arith, numbers-length js)
 
 pub rows-length : (js : List Judgement) (list : List ℕ) (i : ℕ) → i ≤ length js → 3 * i ≤ length list → length (rows js list i) ≡ length list
 rows-length js list i l h =
-    simp (length-append, length-drop) (omega (arith, joined-length (take i js), length-take-le i js l))
+    simp (length-append, length-drop) (omega (arith, numbers-length (take i js), length-take-le i js l))
 
 -- three numbers stored from entry k on
 abbrev stored : List ℕ → (k a b c : ℕ) → List ℕ

@@ -1,9 +1,9 @@
 // The influence line: the greatest that a row of axles gives on a triangle, over every position. Only the positions that
 // put an axle over the apex are tried, in both directions of travel; proofs/Apex.antt shows that they are enough.
 ghost use mathlib.Core.Path.{_≡_};
-ghost use Prim.Native.Nat.{_+_, _-_, _*_, _^_, _≤_, _<_, max};
+ghost use Prim.Native.Nat.{_+_, _-_, _*_, _≤_, _<_, max};
 ghost use Rattle.section.specs.Fraction.{over, ceiling};
-ghost use Rattle.section.specs.Units.{weight};
+ghost use Rattle.section.specs.Units.{weight, FitsSigned};
 ghost use Rattle.influence.specs.Influence.{Triangle, perMetre, behind, vehicleLoad};
 ghost use Rattle.influence.specs.Scaled.{scaledHeight, apexTop};
 ghost use Rattle.influence.specs.Bounds.{Bounded};
@@ -125,7 +125,7 @@ fn other_top(
 fn per_metre(base: HalfCm, apex: HalfCm, sum: ScaledSum) -> KgfPerM
     requires { ⌜ Triangle (base .0) (apex .0) × (base .0 ≤ 10000) × (sum .0 ≤ 320000000000000) ⌝ }
     ensures is { λ r. ⌜ r .0 ≡ ceiling (perMetre (base .0) (over (sum .0) (apex .0 * (base .0 - apex .0)))) ⌝ }
-    ensures cap { λ r. ⌜ r .0 < 2 ^ 63 ⌝ }
+    ensures cap { λ r. ⌜ FitsSigned (r .0) ⌝ }
 {
     let scale = apex.0 * (base.0 - apex.0);
     let load = fraction::round_up(400 * sum.0, scale * base.0);
@@ -142,7 +142,7 @@ pub fn vehicle_load(
 ) -> KgfPerM
     requires { ⌜ Bounded (base .0) (apex .0) axles weights distances ⌝ }
     ensures is { λ r. ⌜ r .0 ≡ vehicleLoad (base .0) (apex .0) weights distances axles ⌝ }
-    ensures cap { λ r. ⌜ r .0 < 2 ^ 63 ⌝ }
+    ensures cap { λ r. ⌜ FitsSigned (r .0) ⌝ }
 {
     let mirrored = beyond(base, apex);
     let one_way = apex_top(base, apex, axles, weights, distances);

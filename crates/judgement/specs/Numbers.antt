@@ -5,7 +5,7 @@ use Rattle.session.specs.Answers.{Answer, numberOf, placeOf, valuesOf}
 use Rattle.judgement.specs.declared.Numbers.{Numbers}
 
 -- Number and place of a refusal, 0 and 0 where there is none; figure, governing place and verdict in judge's order, 0 where there
--- is a refusal, which has no values.
+-- is a refusal, which has no values. Document 02, request 6/13: "the new place but no margin", which is none of the values.
 abbrev pub numbersOf : Answer → Numbers
 numbersOf a =
     record {

@@ -5,6 +5,7 @@ use Prim.Native.Nat.{ℕ, _-_, _*_, _/_, _^_, _≤_, _<_}
 use native.Mathlib.Nat.{mul-le-mul, mul-le-mul-right, mul-one, div-lt-iff-lt-mul}
 use native.Mathlib.Omega.{arith}
 use Rattle.section.proofs.Products.{product-fits}
+use Rattle.section.specs.Units.{FitsSigned}
 
 pub record Divisor (n d e : ℕ) : Type 0 where
   pub above-0 : 0 < n * (2 * d - e)
@@ -24,8 +25,8 @@ divisor n d e pn hn pd hd he =
     }
 
 -- x times k, over at least 2k
-pub share-fits : (x k d : ℕ) → x < 2 ^ 64 → 0 < d → 2 * k ≤ d → x * k / d < 2 ^ 63
+pub share-fits : (x k d : ℕ) → x < 2 ^ 64 → 0 < d → 2 * k ≤ d → FitsSigned (x * k / d)
 share-fits x k d h s l = div-lt-iff-lt-mul s .1 (omega (arith, mul-le-mul-right {m = x} {n = 2 ^ 64 - 1} k (omega arith)))
 
-pub half-fits : (x d : ℕ) → x < 2 ^ 64 → 2 ≤ d → x / d < 2 ^ 63
+pub half-fits : (x d : ℕ) → x < 2 ^ 64 → 2 ≤ d → FitsSigned (x / d)
 half-fits x d h l = rw mul-one at (share-fits x 1 d h (omega arith) l)

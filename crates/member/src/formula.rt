@@ -1,8 +1,9 @@
 // The permitted load by each formula, on whole numbers with the constants multiplied out and one rounding at the end. Factors
 // are in tenths, section moduli in thirtieths of a cm³, a dowel's capacity in hundredths of a kgf.
 ghost use mathlib.Core.Path.{_≡_};
-ghost use Prim.Native.Nat.{_-_, _*_, _/_, _^_, _≤_, _<_, min};
+ghost use Prim.Native.Nat.{_-_, _*_, _/_, _≤_, _<_, min};
 ghost use Rattle.section.specs.Fraction.{over, whole, tenths, hundredths, _≐_};
+ghost use Rattle.section.specs.Units.{FitsSigned};
 ghost use Rattle.spread.specs.Stiffness.{tenThousandths};
 ghost use Rattle.member.specs.Formula.{stringer, closeStringer, crossBeam, chord, joint, dowelled, keyed, plates, permitted};
 ghost use Rattle.member.specs.PermittedLoad.{distribution};
@@ -20,7 +21,7 @@ use section::fraction::round_down;
 fn distributed(x: u64, n: u64, d: Cm, track: Cm, m: u64) -> KgfPerM
     requires { ⌜ (11 ≤ n) × (n ≤ 14) × Spaced (d .0) × (0 < m) ⌝ }
     ensures is { λ r. ⌜ r .0 ≡ x * (2 * d .0) / (n * (2 * d .0 - min (track .0) (d .0)) * m) ⌝ }
-    ensures cap { λ r. ⌜ r .0 < 2 ^ 63 ⌝ }
+    ensures cap { λ r. ⌜ FitsSigned (r .0) ⌝ }
 {
     let e = lesser(track.0, d.0);
     let k = 2 * d.0;
@@ -31,7 +32,7 @@ fn distributed(x: u64, n: u64, d: Cm, track: Cm, m: u64) -> KgfPerM
 pub fn stringer(w: u64, k: u64, n: u64, q: KgfPerM, l: Cm, d: Cm, track: Cm) -> KgfPerM
     requires { ⌜ (w ≤ 43200000) × Sizes k n (q .0) (l .0) × Spaced (d .0) ⌝ }
     ensures is { λ r. ⌜ r .0 ≡ permitted (stringer (over w 30) (tenths k) (tenths n) (hundredths (q .0)) (whole (l .0)) (distribution (d .0) (track .0))) ⌝ }
-    ensures cap { λ r. ⌜ r .0 < 2 ^ 63 ⌝ }
+    ensures cap { λ r. ⌜ FitsSigned (r .0) ⌝ }
 {
     let m = l.0 * l.0;
     distributed(less(5120 * w * k, 12 * q.0 * m), n, d, track, m)
@@ -41,7 +42,7 @@ pub fn stringer(w: u64, k: u64, n: u64, q: KgfPerM, l: Cm, d: Cm, track: Cm) -> 
 pub fn close_stringer(w: u64, k: u64, n: u64, q: KgfPerM, l: Cm, beta: u64) -> KgfPerM
     requires { ⌜ (w ≤ 43200000) × Sizes k n (q .0) (l .0) × (1 ≤ beta) × (beta ≤ 20000) ⌝ }
     ensures is { λ r. ⌜ r .0 ≡ permitted (closeStringer (over w 30) (tenths k) (tenths n) (hundredths (q .0)) (whole (l .0)) (tenThousandths beta)) ⌝ }
-    ensures cap { λ r. ⌜ r .0 < 2 ^ 63 ⌝ }
+    ensures cap { λ r. ⌜ FitsSigned (r .0) ⌝ }
 {
     let m = l.0 * l.0;
     let front = less(10240 * w * k, 24 * q.0 * m);
@@ -52,7 +53,7 @@ pub fn close_stringer(w: u64, k: u64, n: u64, q: KgfPerM, l: Cm, beta: u64) -> K
 pub fn cross_beam(w: u64, k: u64, n: u64, q: KgfPerM, l: Cm, x: Cm) -> KgfPerM
     requires { ⌜ (w ≤ 43200000) × Sizes k n (q .0) (l .0) × Spaced (x .0) ⌝ }
     ensures is { λ r. ⌜ r .0 ≡ permitted (crossBeam (over w 30) (tenths k) (tenths n) (hundredths (q .0)) (whole (l .0)) (whole (x .0))) ⌝ }
-    ensures cap { λ r. ⌜ r .0 < 2 ^ 63 ⌝ }
+    ensures cap { λ r. ⌜ FitsSigned (r .0) ⌝ }
 {
     let m = l.0 * l.0;
     let front = less(12800 * w * k, 36 * q.0 * m);
@@ -63,7 +64,7 @@ pub fn cross_beam(w: u64, k: u64, n: u64, q: KgfPerM, l: Cm, x: Cm) -> KgfPerM
 pub fn chord(h: Cm, f: u64, k: u64, n: u64, q: KgfPerM, l: Cm, x: Cm, d: Cm, track: Cm) -> KgfPerM
     requires { ⌜ (h .0 ≤ 500) × (f ≤ 144000) × Sizes k n (q .0) (l .0) × Inside (x .0) (l .0) × Spaced (d .0) ⌝ }
     ensures is { λ r. ⌜ r .0 ≡ permitted (chord (whole (h .0)) (whole f) (tenths k) (tenths n) (hundredths (q .0)) (whole (l .0)) (whole (x .0)) (distribution (d .0) (track .0))) ⌝ }
-    ensures cap { λ r. ⌜ r .0 < 2 ^ 63 ⌝ }
+    ensures cap { λ r. ⌜ FitsSigned (r .0) ⌝ }
 {
     let m = (l.0 - x.0) * x.0;
     distributed(less(20000 * h.0 * f * k, 12 * q.0 * m), n, d, track, m)
@@ -83,7 +84,7 @@ pub fn joint(
 ) -> KgfPerM
     requires { ⌜ Sizes 0 n (q .0) (l .0) × Ratio a b × Inside (x .0) (l .0) × Spaced (d .0) ⌝ }
     ensures is { λ r. ⌜ r .0 ≡ permitted (joint (over front (1000 * b)) (tenths n) (hundredths (q .0)) (over a b) (whole (l .0)) (whole (x .0)) (distribution (d .0) (track .0))) ⌝ }
-    ensures cap { λ r. ⌜ r .0 < 2 ^ 63 ⌝ }
+    ensures cap { λ r. ⌜ FitsSigned (r .0) ⌝ }
 {
     let m = a * ((l.0 - x.0) * x.0);
     distributed(less(front, 12 * q.0 * m), n, d, track, m)

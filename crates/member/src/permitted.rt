@@ -1,9 +1,10 @@
 // The permitted load of a member, from its record, the vehicle's class and its track.
 ghost use mathlib.Core.Path.{_≡_};
 ghost use mathlib.Core.Bool.{true};
-ghost use Prim.Native.Nat.{ℕ, _*_, _^_, _≤_, _<_};
+ghost use Prim.Native.Nat.{ℕ, _*_, _≤_};
 ghost use Rattle.section.specs.Fraction.{over, _≐_};
 ghost use Rattle.section.specs.Species.{bendingTenths, shearTenths};
+ghost use Rattle.section.specs.Units.{FitsSigned};
 ghost use Rattle.member.specs.Fields.{KIND, SPECIES, CODE, MU-B, field};
 ghost use Rattle.member.specs.Format.{AllowedMember, bending};
 ghost use Rattle.member.specs.PermittedLoad.{loadFactorTenths, sectionModulus, sectionInertia, stiffnessOf, netArea, capacity, jointFront, permittedLoad};
@@ -123,7 +124,7 @@ fn joint_front(m: Member) -> u64
 fn stringer_load(m: Member, class: u8, track: Cm) -> KgfPerM
     requires { ⌜ AllowedMember m × (field m KIND ≡ 1) ⌝ }
     ensures is { λ r. ⌜ r .0 ≡ permittedLoad m class (track .0) ⌝ }
-    ensures cap { λ r. ⌜ r .0 < 2 ^ 63 ⌝ }
+    ensures cap { λ r. ⌜ FitsSigned (r .0) ⌝ }
 {
     stringer(
         modulus_thirtieths(m),
@@ -160,7 +161,7 @@ fn stiffness(m: Member) -> u64
 fn close_stringer_load(m: Member, class: u8, track: Cm) -> KgfPerM
     requires { ⌜ AllowedMember m × (field m KIND ≡ 7) ⌝ }
     ensures is { λ r. ⌜ r .0 ≡ permittedLoad m class (track .0) ⌝ }
-    ensures cap { λ r. ⌜ r .0 < 2 ^ 63 ⌝ }
+    ensures cap { λ r. ⌜ FitsSigned (r .0) ⌝ }
 {
     close_stringer(
         modulus_thirtieths(m),
@@ -176,7 +177,7 @@ fn close_stringer_load(m: Member, class: u8, track: Cm) -> KgfPerM
 fn cross_beam_load(m: Member, class: u8) -> KgfPerM
     requires { ⌜ AllowedMember m × (field m KIND ≡ 2) ⌝ }
     ensures is { λ r. ⌜ ((track : ℕ) → r .0 ≡ permittedLoad m class track) ⌝ }
-    ensures cap { λ r. ⌜ r .0 < 2 ^ 63 ⌝ }
+    ensures cap { λ r. ⌜ FitsSigned (r .0) ⌝ }
 {
     cross_beam(
         modulus_thirtieths(m),
@@ -191,7 +192,7 @@ fn cross_beam_load(m: Member, class: u8) -> KgfPerM
 fn chord_load(m: Member, class: u8, track: Cm) -> KgfPerM
     requires { ⌜ AllowedMember m × (field m KIND ≡ 3) ⌝ }
     ensures is { λ r. ⌜ r .0 ≡ permittedLoad m class (track .0) ⌝ }
-    ensures cap { λ r. ⌜ r .0 < 2 ^ 63 ⌝ }
+    ensures cap { λ r. ⌜ FitsSigned (r .0) ⌝ }
 {
     chord(
         m.height(),
@@ -209,7 +210,7 @@ fn chord_load(m: Member, class: u8, track: Cm) -> KgfPerM
 fn joint_load(m: Member, class: u8, track: Cm) -> KgfPerM
     requires { ⌜ AllowedMember m × (4 ≤ field m KIND) × (field m KIND ≤ 6) ⌝ }
     ensures is { λ r. ⌜ r .0 ≡ permittedLoad m class (track .0) ⌝ }
-    ensures cap { λ r. ⌜ r .0 < 2 ^ 63 ⌝ }
+    ensures cap { λ r. ⌜ FitsSigned (r .0) ⌝ }
 {
     joint(
         joint_front(m),
@@ -228,7 +229,7 @@ fn joint_load(m: Member, class: u8, track: Cm) -> KgfPerM
 pub fn permitted_load(m: Member, class: u8, track: Cm) -> KgfPerM
     requires { ⌜ AllowedMember m ⌝ }
     ensures is { λ r. ⌜ r .0 ≡ permittedLoad m class (track .0) ⌝ }
-    ensures cap { λ r. ⌜ r .0 < 2 ^ 63 ⌝ }
+    ensures cap { λ r. ⌜ FitsSigned (r .0) ⌝ }
 {
     let kind = m.number(KIND);
     if kind == 1 {

@@ -14,7 +14,7 @@ use lib.Signed.{leZ, _≤ℤ_, _<ℤ_, leZ-yes, ltZ-yes}
 use borrow.Author.Tests.{leb-true}
 use Rattle.member.specs.declared.record.Member.{Member}
 use Rattle.member.specs.declared.record.Vehicle.{Vehicle}
-use Rattle.rating.specs.Judgement.{verdictOf, permittedFor, passes, everyPasses, figure, margin, leastMargin, governing, ratingOf, judgementOf}
+use Rattle.rating.specs.Judgement.{verdictOf, permittedFor, passes, everyPasses, figure, margin, leastMargin, hasLeast, governing, ratingOf, judgementOf}
 use Rattle.rating.specs.VehicleLoad.{vehicleLoadOn}
 use Rattle.rating.specs.Surveyed.{memberAt}
 use Rattle.rating.specs.declared.judging.Verdict.{Verdict}
@@ -46,12 +46,15 @@ at-most-so {a} {b} h = go (leZ a b) (h .le)
     go false h = absurd h
 
 -- with the vehicle load a member's margin makes up its permitted load
-pub margin-difference : (m : Member) (v : Vehicle) → ratingOf m v .margin +ℤ pos (ratingOf m v .load .0) ≡ pos (ratingOf m v .permitted .0)
-unfolding ratingOf
+pub margin-difference : (m : Member) (v : Vehicle) → margin v m +ℤ pos (vehicleLoadOn m v) ≡ pos (permittedFor v m)
 margin-difference m v = -ℤ-+ℤ-cancel (pos (permittedFor v m)) (pos (vehicleLoadOn m v))
 
+pub rating-margin : (m : Member) (v : Vehicle) → ratingOf m v .margin ≡ margin v m
+unfolding ratingOf
+rating-margin m v = refl
+
 -- a member passes exactly where its margin is not negative
-pub rating-decides : (m : Member) (v : Vehicle) → (ratingOf m v .verdict ≡ Pass) ↔ (pos 0 ≤ℤ ratingOf m v .margin)
+pub rating-decides : (m : Member) (v : Vehicle) → (ratingOf m v .verdict ≡ Pass) ↔ (pos 0 ≤ℤ margin v m)
 unfolding ratingOf passes
 rating-decides m v =
     let sign = margin-sign (permittedFor v m) (vehicleLoadOn m v) in (
@@ -73,13 +76,13 @@ module _ (ms : List Member) (v : Vehicle) where
     figure-had = least-had orders-ℕ 0 (permittedFor v) ms l
 
     -- some member has the least margin, so the governing member is the first of these
-    pub margin-had : Some (λ m. leZ (margin v m) (leastMargin v ms)) ms
+    pub margin-had : Some (hasLeast v ms) ms
     margin-had =
         let h = least-had orders-ℤ (pos 0) (margin v) ms l in
         record { index = h .0; inside = h .1; is-so = rw (h .2) (itself orders-ℤ (leastMargin v ms)) }
 
-    first : First (λ m. leZ (margin v m) (leastMargin v ms)) ms (governing v ms)
-    first = first-place (λ m. leZ (margin v m) (leastMargin v ms)) ms margin-had
+    first : First (hasLeast v ms) ms (governing v ms)
+    first = first-place (hasLeast v ms) ms margin-had
 
     pub governing-within : (1 ≤ judgementOf ms v .governing) × (judgementOf ms v .governing ≤ length ms)
     unfolding judgementOf

@@ -1,19 +1,19 @@
 -- A margin is a difference of two loads: where both are below 2^63 a signed number of 64 bits holds it, and it is not negative exactly where
 -- the vehicle load is at most the permitted load.
 -- Assumes nothing.
-use Prim.Native.Nat.{ℕ, zero, suc, _+_, _-_, _^_, _≤_, _<_}
+use Prim.Native.Nat.{ℕ, zero, suc, _+_, _-_}
 use mathlib.Core.Path.{_≡_}
-use mathlib.Core.Bool.{cond}
 use native.Mathlib.Decide.{decLe}
 use native.Mathlib.Omega.{arith}
 use lib.Dec.{leb}
 use lib.IntN.{pos, _-ℤ_}
-use lib.Signed.{mag, leZ}
+use lib.Signed.{leZ}
 use borrow.Author.Tests.{le-leb, lt-leb, le-ltb, lt-ltb}
 use mir.Syntax.{w64}
 use mir.Val.{SFits}
+use Rattle.section.specs.Units.{FitsSigned}
 
-pub margin-fits : (p l : ℕ) → p < 2 ^ 63 → l < 2 ^ 63 → SFits w64 (pos p -ℤ pos l)
+pub margin-fits : (p l : ℕ) → FitsSigned p → FitsSigned l → SFits w64 (pos p -ℤ pos l)
 margin-fits p zero h k = record { sfits = omega arith }
 margin-fits p (suc l) h k =
     elim (decLe (suc l) p) [

@@ -2,9 +2,9 @@
 -- members so far and that one.
 -- Assumes nothing.
 use Prim.Native.Nat.{ℕ, suc, _+_, _*_, _≤_, _<_}
-use mathlib.Core.Path.{_≡_, refl, sym, _∙_}
+use mathlib.Core.Path.{_≡_, refl, sym, ap, _∙_}
 use mathlib.Core.Bool.{Bool, true, false, _&&_, and-true, and-assoc}
-use mathlib.Core.List.{List, [], _∷_, _++_, append-assoc}
+use mathlib.Core.List.{List, [], _∷_, _++_}
 use mathlib.Core.Logic.{inl, inr}
 use native.Mathlib.Numerals.{add-one}
 use native.Mathlib.Omega.{arith}
@@ -17,7 +17,7 @@ use borrow.Author.Tests.{ne-eqb}
 use Rattle.section.specs.Choose.{choose}
 use Rattle.member.specs.PermittedLoad.{permittedLoad}
 use Rattle.rating.specs.VehicleLoad.{vehicleLoadOn}
-use Rattle.rating.specs.Judgement.{verdictOf, permittedFor, passes, everyPasses, least, firstThat, figure, margin, leastMargin, governing, loads, written, ratingOf, judgementOf}
+use Rattle.rating.specs.Judgement.{verdictOf, permittedFor, passes, everyPasses, least, firstThat, figure, margin, leastMargin, hasLeast, governing, loads, written, ratingOf, judgementOf}
 use Rattle.rating.specs.Turn.{both, withMember}
 use Rattle.rating.specs.Surveyed.{memberAt, AllowedSurvey}
 use Rattle.section.specs.declared.KgfPerM.{KgfPerM}
@@ -68,11 +68,10 @@ module _ (v : Vehicle) (m : Member) where
 
     place-next : choose (ltZ (margin v m) (leastMargin v ms)) (length ms + 1) (governing v ms) ≡ governing v (ms ++ m ∷ [])
     place-next =
-        rw (← margin-next)
-        (elim (decided (ltZ (margin v m) (leastMargin v ms))) [
+        elim (decided (ltZ (margin v m) (leastMargin v ms))) [
           | inl e ↦ rw (e, place-added (λ n. leZ (margin v n) (margin v m)) ms m (below-least orders-ℤ (pos 0) (margin v) ms (margin v m) e) (itself orders-ℤ (margin v m)))
-          | inr e ↦ rw (e, place-kept (λ n. leZ (margin v n) (leastMargin v ms)) ms (m ∷ []) (margin-had ms v l))
-        ])
+          | inr e ↦ rw (e, place-kept (hasLeast v ms) ms (m ∷ []) (margin-had ms v l))
+        ] ∙ ap (λ (z : ℤ). firstThat (λ n. leZ (margin v n) z) (ms ++ m ∷ [])) margin-next
 
     next-later : withMember (judgementOf ms v) (ratingOf m v) (length ms + 1) ≡ judgementOf (ms ++ m ∷ []) v
     unfolding withMember judgementOf ratingOf

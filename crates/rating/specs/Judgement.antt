@@ -60,12 +60,17 @@ module _ (v : Vehicle) where
   abbrev pub margin : Member → ℤ
   margin m = pos (permittedFor m) -ℤ pos (vehicleLoadOn m v)
 
+  -- the least margin over the members, and that a member has it: its margin is at most the least
   abbrev pub leastMargin : List Member → ℤ
   leastMargin ms = least leZ (pos 0) margin ms
 
-  -- "The governing member becomes the one with the least margin, the first on a tie"
+  abbrev pub hasLeast : List Member → Member → Bool
+  hasLeast ms m = leZ (margin m) (leastMargin ms)
+
+  -- Document 02, request 6/13: "The governing member becomes the one with the least margin, the first on a tie", where document 01 had "the
+  -- member that has it governs", of the figure
   abbrev pub governing : List Member → ℕ
-  governing ms = firstThat (λ m. leZ (margin m) (leastMargin ms)) ms
+  governing ms = firstThat (hasLeast ms) ms
 
   -- "fills a lent list of u64 with permitted load and vehicle load, two numbers a member; entries beyond are kept"
   unfoldable pub loads : List Member → List ℕ

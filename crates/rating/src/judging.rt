@@ -1,11 +1,12 @@
 // A member's rating, and the judgement of a bridge from the ratings of its members.
 ghost use mathlib.Core.Path.{_≡_};
 ghost use mathlib.Core.Bool.{_||_};
-ghost use Prim.Native.Nat.{_+_, _*_, _^_, _≤_, _<_};
+ghost use Prim.Native.Nat.{_+_, _*_, _≤_, _<_};
 ghost use lib.ListN.{length};
 ghost use lib.Dec.{leb, ltb};
 ghost use lib.IntN.{pos, _-ℤ_};
 ghost use Rattle.section.specs.Choose.{choose};
+ghost use Rattle.section.specs.Units.{FitsSigned};
 ghost use Rattle.member.specs.Format.{AllowedMember, AllowedVehicle};
 ghost use Rattle.rating.specs.Surveyed.{membersOf, AllowedSurvey};
 ghost use Rattle.rating.specs.Judgement.{verdictOf, ratingOf, judgementOf, written};
@@ -51,7 +52,7 @@ fn verdict_of(load: KgfPerM, permitted: KgfPerM) -> Verdict
 
 // The margin, below 0 where the vehicle load is above the permitted load. Both are below 2^63, so the difference fits.
 fn margin_of(permitted: KgfPerM, load: KgfPerM) -> i64
-    requires { ⌜ (permitted .0 < 2 ^ 63) × (load .0 < 2 ^ 63) ⌝ }
+    requires { ⌜ FitsSigned (permitted .0) × FitsSigned (load .0) ⌝ }
     ensures { λ r. ⌜ r ≡ pos (permitted .0) -ℤ pos (load .0) ⌝ }
 {
     permitted.0 as i64 - load.0 as i64

@@ -1,6 +1,7 @@
 // The load that a vehicle's axles put on a member, over the member's influence line.
 ghost use mathlib.Core.Path.{_≡_};
-ghost use Prim.Native.Nat.{_*_, _^_, _≤_, _<_};
+ghost use Prim.Native.Nat.{_*_, _≤_};
+ghost use Rattle.section.specs.Units.{FitsSigned};
 ghost use Rattle.member.specs.Format.{AllowedMember, AllowedVehicle};
 ghost use Rattle.rating.specs.VehicleLoad.{influenceLine, vehicleLoadOn};
 use influence::HalfCm;
@@ -47,7 +48,7 @@ fn apex_of(m: Member) -> HalfCm
 pub fn vehicle_load_on(m: Member, v: Vehicle) -> KgfPerM
     requires { ⌜ AllowedMember m × AllowedVehicle v ⌝ }
     ensures is { λ r. ⌜ r .0 ≡ vehicleLoadOn m v ⌝ }
-    ensures cap { λ r. ⌜ r .0 < 2 ^ 63 ⌝ }
+    ensures cap { λ r. ⌜ FitsSigned (r .0) ⌝ }
 {
     let weights = v.weights;
     let distances = v.distances;

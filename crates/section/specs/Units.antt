@@ -1,5 +1,5 @@
 -- Numbers with their units. Document 01: "Lengths are whole centimetres, axle weights whole kgf".
-use Prim.Native.Nat.{ℕ}
+use Prim.Native.Nat.{ℕ, _^_, _<_}
 use mathlib.Core.List.{List}
 use lib.ListN.{getD}
 use Rattle.section.specs.declared.Cm.{Cm}
@@ -10,6 +10,10 @@ centimetres n = record { 0 = n }
 
 abbrev pub kgf : ℕ → Kgf
 kgf n = record { 0 = n }
+
+-- a load that a signed number of 64 bits holds: one holds the difference of two such loads too
+abbrev pub FitsSigned : ℕ → Type 0
+FitsSigned n = n < 2 ^ 63
 
 -- in a vehicle's row of weights the weight of the axle of index i, in kgf; in its row of distances how far that axle stands behind the
 -- axle in front, in cm

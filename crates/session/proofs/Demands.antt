@@ -27,7 +27,7 @@ use Rattle.member.specs.declared.record.Vehicle.{Vehicle}
 use Rattle.member.proofs.Falling.{permitted-load-exact}
 use Rattle.rating.proofs.Judged.{vehicle-load-rises, permitted-falls, member-stays-refused, figure-falls, bridge-stays-refused, same-places}
 use Rattle.rating.proofs.Lines.{line-sized, vehicle-load-covers, vehicle-load-rounded-up}
-use Rattle.rating.proofs.Governing.{figure-least, figure-had, governing-within, governing-margin, governing-least, governing-first, margin-difference, rating-decides, judgement-decides}
+use Rattle.rating.proofs.Governing.{figure-least, figure-had, governing-within, governing-margin, governing-least, governing-first, margin-difference, rating-decides, rating-margin, judgement-decides}
 use Rattle.rating.proofs.Surveys.{members-counted, members-allowed}
 use Rattle.files.specs.Allowed.{AllowedSurveyFile, AllowedVehicleFile}
 use Rattle.files.specs.Refused.{SurveyRefusal, VehicleRefusal}
@@ -185,7 +185,7 @@ demand2 =
             first = governing-first ms v h;
             decides = judgement-decides ms v h;
           };
-      margins = λ m v. record { difference = margin-difference m v; decides = rating-decides m v };
+      margins = λ m v. record { difference = margin-difference m v; decides = rating-decides m v; rated = rating-margin m v };
       files-judged = files-answer;
       yard-judged = yard-taken;
       between-judged = between-taken;

@@ -50,9 +50,9 @@ module _ (s : Session) (file : List ℕ) where
   judged h a lent l =
       ap (λ (o : Outcome). judge (o .session) lent .answer) (loaded a) ∙ all-answers with h (a .vehicle .axles .0) .judged lent l
 
-  alone-values : Valid s → 0 < s .survey .count → AllowedVehicleFile file → alone s file ≡ judgementAnswer (judgementOf (members s) (vehicleOf file))
+  alone-answer : Valid s → 0 < s .survey .count → AllowedVehicleFile file → alone s file ≡ judgementAnswer (judgementOf (members s) (vehicleOf file))
   unfolding alone thenJudge
-  alone-values v h a =
+  alone-answer v h a =
       ap (λ (o : Outcome). thenJudge o .answer) (loaded a) ∙ all-answers with h (a .vehicle .axles .0) .judged (replicate (2 * MOST-MEMBERS) 0) (omega (arith, few-members s v))
 
   alone-refused : (r : Refusal) → VehicleRefusal file r → alone s file ≡ refusedBy r
@@ -72,7 +72,7 @@ module _ (s : Session) (v : Valid s) (h : 0 < s .survey .count) where
   all-good : (files : List (List ℕ)) → AllowedTo files (length files) → firstRefusal (map (alone s) files) (Values []) ≡ Values []
   all-good [] a = refl
   all-good (file ∷ files) a =
-      ap (λ (x : Answer). unlessRefused x x (firstRefusal (map (alone s) files) (Values []))) (alone-values s file v h (a 0 (omega arith))) ∙ all-good files (λ i l. a (suc i) (omega arith))
+      ap (λ (x : Answer). unlessRefused x x (firstRefusal (map (alone s) files) (Values []))) (alone-answer s file v h (a 0 (omega arith))) ∙ all-good files (λ i l. a (suc i) (omega arith))
 
   -- the first faulty file is the refusal
   first-faulty : (files : List (List ℕ)) (i : ℕ) → i < length files → AllowedTo files i → (r : Refusal) → VehicleRefusal (getD files i []) r →
@@ -81,7 +81,7 @@ module _ (s : Session) (v : Valid s) (h : 0 < s .survey .count) where
   first-faulty (file ∷ files) zero l a r f =
       ap (λ (x : Answer). unlessRefused x x (firstRefusal (map (alone s) files) (Values []))) (alone-refused s file r f)
   first-faulty (file ∷ files) (suc i) l a r f =
-      ap (λ (x : Answer). unlessRefused x x (firstRefusal (map (alone s) files) (Values []))) (alone-values s file v h (a 0 (omega arith))) ∙ first-faulty files i (omega arith) (λ k b. a (suc k) (omega arith)) r f
+      ap (λ (x : Answer). unlessRefused x x (firstRefusal (map (alone s) files) (Values []))) (alone-answer s file v h (a 0 (omega arith))) ∙ first-faulty files i (omega arith) (λ k b. a (suc k) (omega arith)) r f
 
   -- and it is one of the two: all are allowed, or one is the first that is not
   abbrev Faulty : List (List ℕ) → Type 0
@@ -224,7 +224,7 @@ module _ (s : Session) (v : Valid s) (yard : List ℕ) where
 
       entry : (i : ℕ) → i < vehiclesOf yard → entryAt (yardList s yard list) i ≡ judgementAnswer (judgementOf (members s) (vehicleOf (fileAt yard i)))
       entry i l =
-          ap (λ (m : List Entry). entryAt m i) (written g) ∙ List·getD-append (vehicleAnswers s yard) (drop (vehiclesOf yard) list) (Values []) i (omega (arith, as-many)) ∙ getD-mapped (alone s) (vehicleFiles yard) i (Values []) [] (omega (arith, counted-files s v yard (length list))) ∙ alone-values s (fileAt yard i) v (g .counted .survey) (g .files i l)
+          ap (λ (m : List Entry). entryAt m i) (written g) ∙ List·getD-append (vehicleAnswers s yard) (drop (vehiclesOf yard) list) (Values []) i (omega (arith, as-many)) ∙ getD-mapped (alone s) (vehicleFiles yard) i (Values []) [] (omega (arith, counted-files s v yard (length list))) ∙ alone-answer s (fileAt yard i) v (g .counted .survey) (g .files i l)
 
       past : (i : ℕ) → vehiclesOf yard ≤ i → entryAt (vehicleAnswers s yard ++ drop (vehiclesOf yard) list) i ≡ entryAt list i
       past i l =

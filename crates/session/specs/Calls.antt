@@ -1,7 +1,7 @@
 -- The four calls. Document 01, 'Calls': "Load a survey, load a vehicle, rate one place, judge." `Yard` and `Readings`
 -- have two more.
 use Prim.Native.Nat.{ℕ, _-_, _*_, _<_}
-use mathlib.Core.Bool.{Bool, not}
+use mathlib.Core.Bool.{not}
 use mathlib.Core.List.{List, [], _∷_}
 use lib.Dec.{eqb, leb}
 use lib.ListN.{length, replicate}
@@ -106,6 +106,7 @@ unfoldable pub thenJudge : Outcome → Outcome
 thenJudge o = andThen o (λ s. judge s (replicate (2 * MOST-MEMBERS) 0))
 
 -- "calls the judgement on the bytes of both files. It gets the number and place of a refusal, the survey's before the vehicle's, or
--- figure, governing place and verdict"
+-- figure, governing place and verdict". The answer is judge's, with its margin; what the host program gets of it is in
+-- judgement/specs/Numbers.antt
 unfoldable pub judgeFiles : (survey vehicle : List ℕ) → Outcome
 judgeFiles survey vehicle = thenJudge (loadFiles survey vehicle)

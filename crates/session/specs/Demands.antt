@@ -8,7 +8,7 @@ use lib.ListN.{length}
 use Rattle.rating.specs.Compare.{SamePlaces, Heavier}
 use Rattle.member.specs.Format.{In, _‥_}
 use Rattle.member.specs.Formula.{Permitted}
-use Rattle.rating.specs.Judgement.{ratingOf, judgementOf}
+use Rattle.rating.specs.Judgement.{judgementOf}
 use Rattle.member.specs.PermittedLoad.{formulaOf}
 use Rattle.rating.specs.Surveyed.{memberAt}
 use Rattle.member.specs.declared.record.Member.{Member}
@@ -82,7 +82,7 @@ pub record Demand2 : Type 0 where
   pub answers : (s : Session) → 0 < s .survey .count → 0 < s .vehicle .axles → Answers s
   pub governs : (ms : List Member) (v : Vehicle) → 0 < length ms → Governs ms v (judgementOf ms v)
   -- and the margin of a member, document 02, request 6/13
-  pub margins : (m : Member) (v : Vehicle) → Margin (ratingOf m v)
+  pub margins : (m : Member) (v : Vehicle) → Margin m v
   -- the same on the bytes of both files
   pub files-judged : (survey vehicle : List ℕ) → AllowedSurveyFile survey → AllowedVehicleFile vehicle →
       judgeFiles survey vehicle .answer ≡ judgementAnswer (judgementIn (record { survey = surveyOf survey; vehicle = vehicleOf vehicle }))

@@ -44,7 +44,7 @@ judgementIn s = judgementOf (members s) (s .vehicle)
 
 -- the call succeeds with values and a margin, or is refused by a number from the state, at place 0
 abbrev pub FromState : (numbers : ℕ → Type 0) → Answer → Type 0
-FromState numbers a = ((values : List ℕ) × (margin : ℤ) × (a ≡ WithMargin values margin)) ⊎ ((n : ℕ) × (numbers n) × (a ≡ RefusedAt n 0))
+FromState numbers a = ((values : List ℕ) × (z : ℤ) × (a ≡ WithMargin values z)) ⊎ ((n : ℕ) × (numbers n) × (a ≡ RefusedAt n 0))
 
 -- rate and judge are refused by this number, whatever place and list they are given
 abbrev pub RefusedBoth : Session → (number : ℕ) → Type 0
@@ -60,10 +60,11 @@ pub record Answers (s : Session) : Type 0 where
       judgeList s list ≡ written (s .vehicle) (members s) list
 
 -- A member's margin, in words. Document 02, request 6/13: "its permitted load minus its vehicle load, and it may be negative": with the
--- vehicle load it makes up the permitted load, and it is not negative exactly where the member passes.
-pub record Margin (r : Rating) : Type 0 where
-  pub difference : r .margin +ℤ pos (r .load .0) ≡ pos (r .permitted .0)
-  pub decides : (r .verdict ≡ Pass) ↔ (pos 0 ≤ℤ r .margin)
+-- vehicle load it makes up the permitted load, and it is not negative exactly where the member passes. It is "rate's".
+pub record Margin (m : Member) (v : Vehicle) : Type 0 where
+  pub difference : margin v m +ℤ pos (vehicleLoadOn m v) ≡ pos (permittedFor v m)
+  pub decides : (ratingOf m v .verdict ≡ Pass) ↔ (pos 0 ≤ℤ margin v m)
+  pub rated : ratingOf m v .margin ≡ margin v m
 
 -- the bridge's figure and governing member, in words
 pub record Governs (ms : List Member) (v : Vehicle) (j : Judgement) : Type 0 where

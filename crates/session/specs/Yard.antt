@@ -14,7 +14,8 @@ use Rattle.session.specs.Answers.{Answer, Values, Outcome, valuesOf, ver
 use Rattle.session.specs.Calls.{loadVehicle, thenJudge, unlessFault, unlessRefused}
 use Rattle.session.specs.declared.Session.{Session}
 
--- An entry of the lent list: "figure, governing place, verdict", and request 6/13, "the governing member's" margin: what judge answers.
+-- An entry of the lent list: "figure, governing place, verdict", and request 6/13, "the governing member's" margin: what judge answers
+-- where it succeeds.
 abbrev pub Entry : Type 0
 Entry = Answer
 

@@ -249,7 +249,7 @@ fn judge_loaded(after: AfterLoad) -> Judged
     judged.answer
 }
 
-// The judgement on the bytes of both files: the refusal of the first that is refused, or figure, governing place and verdict.
+// The judgement on the bytes of both files: the refusal of the first that is refused, or what judge gives.
 pub fn judge_files(survey: &[u8], vehicle: &[u8]) -> Judged
     ensures { λ r. ⌜ judgeAnswer r ≡ judgeFiles (now (survey .entry)) (now (vehicle .entry)) .answer ⌝ }
 {

@@ -1,4 +1,4 @@
-//! Margins and the governing member by hand, from the numbers of document 01's cases A, B, E and F
+//! Margins and the governing member by hand, from the numbers of document 01's cases A, D, E and F
 //! under single axles: at mid-span of A an axle gives 0.4 of its weight, on F 0.5 and on E 0.2.
 
 use reference::generate::*;

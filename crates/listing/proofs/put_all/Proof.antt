@@ -2,7 +2,7 @@
 -- in between, the row of elements is i answers and then what stood there, and a turn stores the answer at i over element i (`stored`).
 -- The answer at i is what `answer_at` returns, of which the proof knows only that it meets its contract.
 -- Assumes nothing.
-use mathlib.Core.Path.{_≡_, refl, sym, _∙_, ap, subst}
+use mathlib.Core.Path.{_≡_, refl, sym, ap, subst}
 use Prim.Native.Nat.{ℕ, zero, suc, _+_, _-_, _*_, _≤_, _<_, _^_}
 use native.Mathlib.Nat.{le-of-suc-le-suc, not-suc-le-zero, le-of-lt, le-refl, lt-suc-self}
 use native.Mathlib.Numerals.{add-one}

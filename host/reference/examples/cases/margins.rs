@@ -79,8 +79,9 @@ fn full_surveys(script: &mut Script) {
     }
 }
 
-/// Steel plates of the least span with all else at its greatest, and a rotten stringer of the least
-/// span: under 1 kgf, and under 16 of the heaviest axles 1 cm apart.
+/// Steel plates with every number as the greatest permitted load has it; a rotten stringer of the
+/// least span, and a rotten cross beam between the shortest panels, whose margin is the least: under
+/// 1 kgf, and under 16 of the heaviest axles 1 cm apart.
 fn far_apart(script: &mut Script) {
     let plates =
         with(usual(6, 4), &[(SPAN, 100), (FROM_SUPPORT, 1), (SPACING, 10), (DEAD_LOAD, 0)]);

@@ -32,7 +32,7 @@ fn with_margin(words: &Words, vehicle: &Vehicle, wanted: i64) -> Option<Words> {
 }
 
 /// Two to four members and a vehicle of up to three axles: a member is loaded until its margin is
-/// the bridge's least. None where that can be of none.
+/// the bridge's least. None where no member can be brought to it.
 pub fn at_a_tie(random: &mut Random) -> Option<(Vec<u8>, VehicleWords)> {
     let (count, axles) = (2 + random.below(3), 1 + random.below(3));
     let mut members = survey(random, Spread::Usual, count);

@@ -28,7 +28,7 @@ pub fn fit(count: usize, judgement: &Judgement, members: &[MemberLoads]) -> Resu
         return differ("a member's margin");
     }
     // The least margin, and of equal ones the first, as `min_by_key` has it.
-    let worst = members.iter().min_by_key(|member| member.margin());
+    let worst = members.iter().min_by_key(|member| margin(member));
     if worst.map(|member| member.place) != Some(governing) {
         return differ("the governing member");
     }

@@ -1,5 +1,5 @@
 //! `tbr judge`: a bridge under one vehicle or several. Every load, figure and verdict is the proved
-//! code's; only a margin and the share used are worked out here.
+//! code's; only the share used is worked out here, and a margin by [`MemberLoads::margin`].
 
 use crate::arguments::Arguments;
 use crate::end::{End, Failure, Status};

@@ -8,7 +8,7 @@ const HEADING: [&str; 7] =
     ["place", "member", "permitted kgf/m", "vehicle kgf/m", "margin kgf/m", "used", "verdict"];
 
 fn line([place, member, permitted, vehicle, margin, used, verdict]: [&str; 7]) -> String {
-    let loads = format!("{permitted:>15}  {vehicle:>13}  {margin:>12}");
+    let loads = format!("{permitted:>15}  {vehicle:>13}  {margin:>14}");
     format!("{place:>5}  {member:<14}  {loads}  {used:>8}  {verdict}\n")
 }
 

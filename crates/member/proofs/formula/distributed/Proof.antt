@@ -1,7 +1,5 @@
 -- `member::formula::distributed` meets its contract: a quotient by n (2d − e), and then by m, is the quotient by their product.
 -- Assumes nothing.
-use Prim.Native.Nat.{_*_, _/_, _≤_}
-use mathlib.Core.Path.{_≡_, ap, _∙_}
 use native.Mathlib.Nat.{div-div-eq-div-mul, div-le-self, lt-of-le-of-lt}
 use native.Mathlib.Omega.{arith}
 use Rattle.section.specs.Fraction.{over, floor}
