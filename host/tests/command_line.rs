@@ -25,7 +25,7 @@ fn a_bridge_that_is_refused() {
     let (status, table, _) = run(&["judge", "case-a.tbr", "lorry.tbv"]);
     assert_eq!(status, 1);
     let row =
-        "\n    1  stringer                   1720           2780         -1060     162 %  refuse\n";
+        "1  stringer                   1720           2780           -1060     162 %  refuse\n";
     assert!(table.contains(row), "{table}");
     assert!(table.ends_with("\nverdict    refuse: member 1\n"), "{table}");
 }
@@ -93,7 +93,7 @@ fn a_member_that_bears_nothing_has_no_share() {
     let (status, table, _) = run(&["judge", &survey, "case-l.tbv"]);
     assert_eq!(status, 1);
     let row =
-        "\n    1  stringer                      0           1200         -1200         -  refuse\n";
+        "1  stringer                      0           1200           -1200         -  refuse\n";
     assert!(table.contains(row), "{table}");
 }
 
