@@ -4,7 +4,7 @@
 
 use crate::crescent::crescent_modulus;
 use crate::influence::{offsets, triangle};
-use crate::judge::{bridge, Judged, Rated};
+use crate::judge::{Judged, Rated};
 use crate::layout::CLOSE_STRINGER;
 use crate::permitted::SPECIES;
 use crate::reader::{self, Axle, Member, Refused, Vehicle};
@@ -174,6 +174,20 @@ fn rate_with(member: &Member, vehicle: &Vehicle, behind: &[usize]) -> Rated {
 /// A member's loads, fast.
 pub fn rate(member: &Member, vehicle: &Vehicle) -> Rated {
     rate_with(member, vehicle, &offsets(&vehicle.axles))
+}
+
+/// The bridge in one pass over its members. No load of files comes near 2^63, so the wrapped
+/// difference of two is their margin.
+fn bridge(members: Vec<Rated>) -> Judged {
+    let (mut figure, mut governing, mut margin) = (u64::MAX, 0, i64::MAX);
+    for (rated, place) in members.iter().zip(1..) {
+        let own = rated.permitted.wrapping_sub(rated.vehicle).cast_signed();
+        figure = figure.min(rated.permitted);
+        if own < margin {
+            (governing, margin) = (place, own);
+        }
+    }
+    Judged { figure, governing, passes: margin >= 0, margin, members }
 }
 
 /// The judgement, fast.
