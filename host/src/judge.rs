@@ -71,8 +71,12 @@ impl MemberLoads {
     /// Where the difference is outside an `i64`. The library's loads are far from that: by the
     /// ranges of the files none is above 4 × 10¹³.
     pub fn margin(&self) -> i64 {
-        let margin = self.permitted.checked_signed_diff(self.vehicle);
-        margin.expect("the loads of files differ by less than 2^63")
+        self.checked_margin().expect("the loads of files differ by less than 2^63")
+    }
+
+    /// The same, and none where the difference is outside an `i64`.
+    pub fn checked_margin(&self) -> Option<i64> {
+        self.permitted.checked_signed_diff(self.vehicle)
     }
 }
 

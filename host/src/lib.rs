@@ -4,7 +4,7 @@
 //! which is the least permitted load, the governing member, which is the one with the least margin,
 //! and the verdict, or the refusal of a file; [`member_loads`] gives the two loads of every member,
 //! and [`judge_yard`] judges up to 32 vehicles, joined to a yard by [`file::join_yard`]. Each is a
-//! call of the proved library; no load is worked out here.
+//! call of the proved library; no load is worked out here, and a margin is the difference of two.
 //!
 //! ```
 //! let survey = include_bytes!("../../samples/case-a.tbr");

@@ -1,6 +1,6 @@
 -- A signed number as the machine holds it: what -1 less one below 0 is, and that one that is not below 0 is the same without a sign.
 -- Assumes nothing.
-use Prim.Native.Nat.{ℕ, suc, _+_, _^_, _<_}
+use Prim.Native.Nat.{ℕ, suc, _+_}
 use mathlib.Core.Path.{_≡_, ap}
 use mathlib.Core.Bool.{false, true≢false}
 use native.Mathlib.Omega.{arith}
@@ -11,11 +11,12 @@ use borrow.Author.Tests.{le-ltb}
 use mir.Syntax.{w64}
 use mir.Val.{Fits, SFits, toZ, ofZ}
 use mir.Facts.{toZ-ofZ}
+use Rattle.section.specs.Units.{FitsSigned}
 
 -- k is one less than the size of n
 pub record Below (n : ℤ) (k : ℕ) : Type 0 where
   pub size : natAbs n ≡ k + 1
-  pub small : k < 2 ^ 63
+  pub small : FitsSigned k
   pub fits : SFits w64 (negsuc 0 -ℤ toZ w64 (ofZ w64 n))
   pub read : toZ w64 (ofZ w64 (negsuc 0 -ℤ toZ w64 (ofZ w64 n))) ≡ pos k
 

@@ -23,12 +23,11 @@ pub fn fit(count: usize, judgement: &Judgement, members: &[MemberLoads]) -> Resu
         return differ("the figure");
     }
     // No files have loads so far apart that their difference is not a margin.
-    let margin = |member: &MemberLoads| member.permitted.checked_signed_diff(member.vehicle);
-    if members.iter().any(|member| margin(member).is_none()) {
+    if members.iter().any(|member| member.checked_margin().is_none()) {
         return differ("a member's margin");
     }
     // The least margin, and of equal ones the first, as `min_by_key` has it.
-    let worst = members.iter().min_by_key(|member| margin(member));
+    let worst = members.iter().min_by_key(|member| member.checked_margin());
     if worst.map(|member| member.place) != Some(governing) {
         return differ("the governing member");
     }
