@@ -136,10 +136,19 @@ pub ÷-same : {a a' b b' : Fraction} → a ≐ a' → b ≐ b' → a ÷ b ≐ a'
 unfolding _÷_
 ÷-same e f = record { out = omega (arith, ap₂ (λ (x y : ℕ). x * y) (e .out) (sym (f .out))) }
 
--- fractions over one divisor are summed and multiplied like whole numbers
+-- fractions over one divisor are added, subtracted and multiplied like whole numbers
 pub ⊕-over : {a b : Fraction} (x y D : ℕ) → a ≐ over x D → b ≐ over y D → a ⊕ b ≐ over (x + y) D
 unfolding over _⊕_
 ⊕-over {a} {b} x y D p q = record { out = omega (arith, ap (λ t. t * b .den) (p .out), ap (λ t. t * a .den) (q .out)) }
+
+pub ⊖-over : {a b : Fraction} (x y D : ℕ) → a ≐ over x D → b ≐ over y D → a ⊖ b ≐ over (x - y) D
+unfolding over _⊖_
+⊖-over {a} {b} x y D p q =
+    record {
+      out =
+          rw (sub-mul (a .num * b .den) (b .num * a .den) D, sub-mul x y (a .den * b .den))
+          (omega (arith, ap (λ t. t * b .den) (p .out), ap (λ t. t * a .den) (q .out)));
+    }
 
 pub times-over : (k x D : ℕ) {a : Fraction} → a ≐ over x D → whole k · a ≐ over (k * x) D
 unfolding over whole _·_
