@@ -12,13 +12,15 @@ use Rattle.section.specs.Fraction.{Sound, over, whole, ceiling, _·_, _÷_, _�
 use Rattle.section.specs.Greatest.{top}
 use Rattle.section.proofs.Greatest.{of-top, of-greatest, greatest-at, greatest-over}
 use Rattle.section.proofs.Order.{⊑-refl, ≐-refl, ≐-sym, ≐-trans, ·-same, ·-sound, ÷-sound, ⊕-sound, over-sound, whole-sound, ⊕-over, times-over, ÷-over, over-times}
+use Rattle.section.proofs.Products.{product-cap}
 use Rattle.section.proofs.Rounding.{rounded-up, ceiling-least, ceiling-same}
 use Rattle.spread.specs.Beta.{away, spacings, rest, Parted, carried, greatestCarried, GreatestOverAll, beta}
 use Rattle.spread.specs.Scaled.{part, SharesOf, Bounded, apart, scaledCarried}
 use Rattle.spread.specs.Spread.{Spread, spreadOf, share}
 use Rattle.spread.specs.Stiffness.{tenThousandths}
 use Rattle.spread.specs.declared.shares.Shares.{Shares}
-use Rattle.spread.proofs.Spreads.{Sensible, sensible, far-share}
+use Rattle.spread.proofs.Counted.{far-share}
+use Rattle.spread.proofs.Spreads.{Sensible, sensible}
 
 -- "With E = md + r (m whole, r below d)"
 pub parted : (d E : ℕ) → 0 < d → Parted d E
@@ -138,12 +140,12 @@ module _ (k d E : ℕ) (s : Shares) (h : SharesOf (spreadOf (tenThousandths k)) 
       ceiling-same (over-sound _ _ divisor-above-0) (·-sound (greatest-sound (sensible k) d E pd) (whole-sound 10000))
       (≐-trans (·-sound (over-sound most _ divisor-above-0) (whole-sound 10000)) multiplied (·-same most-is ≐-refl))
 
--- each share is at most the whole, so no stringer carries more than both wheels
-pub most-cap : {s : Shares} (d m r n : ℕ) → Bounded s → r ≤ d → top (scaledCarried s d m r) n ≤ 2 * (s .divisor * d)
+-- each share is at most the loaded stringer's, so no stringer carries more than it would of both wheels
+pub most-cap : {s : Shares} (d m r n : ℕ) → Bounded s → r ≤ d → top (scaledCarried s d m r) n ≤ 2 * (s .own * d)
 unfolding scaledCarried
-most-cap {s} d m r n b h = of-top (λ t. t ≤ 2 * (s .divisor * d)) _ n (omega arith) (λ i l. each (apart i 3) (apart i (m + 3)) (apart i (m + 4)))
+most-cap {s} d m r n b h = of-top (λ t. t ≤ 2 * (s .own * d)) _ n (omega arith) (λ i l. each (apart i 3) (apart i (m + 3)) (apart i (m + 4)))
   where
-    each : (x y z : ℕ) → part s x * d + ((d - r) * part s y + r * part s z) ≤ 2 * (s .divisor * d)
+    each : (x y z : ℕ) → part s x * d + ((d - r) * part s y + r * part s z) ≤ 2 * (s .own * d)
     each x y z =
         let both : d - r + r ≡ d = omega arith in
         omega (
@@ -151,9 +153,15 @@ most-cap {s} d m r n b h = of-top (λ t. t ≤ 2 * (s .divisor * d)) _ n (omega 
           mul-le-mul-right d (b .parts x),
           mul-le-mul-left (d - r) (b .parts y),
           mul-le-mul-left r (b .parts z),
-          ap (λ (t : ℕ). t * s .divisor) both,
+          ap (λ (t : ℕ). t * s .own) both,
         )
 
-pub rounded-cap : (n D : ℕ) → 0 < D → n ≤ 2 * D → ceiling (over (10000 * n) D) ≤ 20000
+-- 64 bits hold what is rounded up
+pub most-fits : {s : Shares} (d n : ℕ) → Bounded s → d ≤ 100 → n ≤ 2 * (s .own * d) → 10000 * n + s .divisor * d ≤ 18000000000000000000
+most-fits {s} d n b hd h = omega (arith, product-cap 180000000000000000 100 (b .room) hd)
+
+pub rounded-cap : {s : Shares} (d n : ℕ) → Bounded s → 0 < s .divisor * d → n ≤ 2 * (s .own * d) → ceiling (over (10000 * n) (s .divisor * d)) ≤ 20000
 unfolding over whole
-rounded-cap n D p h = ceiling-least 20000 (over-sound (10000 * n) D p) (over-sound (10000 * n) D p) ⊑-refl (record { out = omega arith })
+rounded-cap {s} d n b p h =
+    let sound = over-sound (10000 * n) (s .divisor * d) p in
+    ceiling-least 20000 sound sound ⊑-refl (record { out = omega (arith, mul-le-mul-right d (b .own-high)) })

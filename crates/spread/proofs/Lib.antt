@@ -1,4 +1,5 @@
 pub mod Carried
+pub mod Counted
 pub mod Moments
 pub mod Spreads
 pub mod StiffnessNumber

@@ -1,11 +1,10 @@
 -- `spread::beta::beta` meets its contract: the greatest over the divisor, times 10,000, rounded up once.
 -- Assumes nothing.
-use Prim.Native.Nat.{_*_, _/_, _%_, _≤_, _<_}
+use Prim.Native.Nat.{_+_, _*_, _/_, _%_, _≤_, _<_}
 use mathlib.Core.Path.{_∙_}
 use native.Mathlib.Nat.{mod-lt, mul-pos, mul-le-mul-left, div-mul-le-self}
 use native.Mathlib.Omega.{arith}
-use Rattle.section.proofs.Products.{product-cap}
-use Rattle.spread.proofs.Carried.{beta-whole, most-cap, rounded-cap}
+use Rattle.spread.proofs.Carried.{beta-whole, most-cap, most-fits, rounded-cap}
 use borrow.Author.Needs.{needs}
 use Rattle.spread.proofs.beta.beta.Statement.{statement}
 use Rattle.spread.proofs.beta.beta.Tie as tie
@@ -34,20 +33,20 @@ greatest-carried-requires c κs =
     let at = c .before .before .before .before in
     (at .shares-of .ensures .1, omega arith, rest-below at, omega (arith, spacings-few at))
 
--- what was found is at most twice the divisor
-found : (c : tie.After-greatest-carried) → let at = c .before .before .before .before .before in c .greatest-carried .result ≤ 2 * (at .shares-of .result .divisor * at .before .args .d .0)
+-- what was found, and what is computed of it
+found : (c : tie.After-greatest-carried) → let at = c .before .before .before .before .before in c .greatest-carried .result ≤ 2 * (at .shares-of .result .own * at .before .args .d .0)
 found c =
     let at = c .before .before .before .before .before in
     rw (c .greatest-carried .ensures) (most-cap _ _ _ _ (at .shares-of .ensures .1) (rest-below at))
 
-divisor-cap : (c : tie.After-shares-of) → c .shares-of .result .divisor * c .before .args .d .0 ≤ 200000000000
-divisor-cap c = product-cap 2000000000 100 (c .shares-of .ensures .1 .high) (omega arith)
+fits : (c : tie.After-greatest-carried) → let at = c .before .before .before .before .before in 10000 * c .greatest-carried .result + at .shares-of .result .divisor * at .before .args .d .0 ≤ 18000000000000000000
+fits c = most-fits _ _ (c .before .before .before .before .before .shares-of .ensures .1) (omega arith) (found c)
 
 mul-round-up : tie.Need-mul-round-up
-mul-round-up c = omega (arith, found c, divisor-cap (c .before .before .before .before .before))
+mul-round-up c = omega (arith, fits c)
 
 mul-round-up-2 : tie.Need-mul-round-up-2
-mul-round-up-2 c = omega (arith, divisor-cap (c .before .before .before .before .before .before .before))
+mul-round-up-2 c = omega (arith, fits (c .before .before))
 
 divisor-above-0 : (c : tie.After-shares-of) → 0 < c .shares-of .result .divisor * c .before .args .d .0
 divisor-above-0 c = mul-pos (c .shares-of .ensures .1 .above-0) (omega arith)
@@ -56,7 +55,7 @@ round-up-requires : tie.Need-round-up-requires
 round-up-requires c κs =
     let g = c .before .before in
     let at = g .before .before .before .before .before in
-    (divisor-above-0 at, omega (arith, found g, divisor-cap at))
+    (divisor-above-0 at, omega (arith, fits g))
 
 returns : tie.Need-returns
 returns c =
@@ -65,7 +64,7 @@ returns c =
     let a = at .before .args in (
       c .round-up .ensures .0 ∙
           rw (g .greatest-carried .ensures) (beta-whole (a .k) (a .d .0) (a .track .0) (at .shares-of .result) (at .shares-of .ensures .0) (at .shares-of .ensures .1) (omega arith)),
-      rw (c .round-up .ensures .0) (rounded-cap _ _ (divisor-above-0 at) (found g)),
+      rw (c .round-up .ensures .0) (rounded-cap _ _ (at .shares-of .ensures .1) (divisor-above-0 at) (found g)),
     )
 
 pub beta-spec : {M : Type 1} → statement M

@@ -1,4 +1,4 @@
--- `spread::beta::carried` meets its contract: the sum as it is written, of shares that are each at most the divisor.
+-- `spread::beta::carried` meets its contract: the sum as it is written, of shares that are each at most the loaded stringer's.
 -- Assumes nothing.
 use Prim.Native.Nat.{_-_, _*_, _≤_}
 use native.Mathlib.Omega.{arith}
@@ -14,10 +14,10 @@ apart-requires c κs = search needs
 share-at-requires : tie.Need-share-at-requires
 share-at-requires c κs = search needs
 
-first-cap : (c : tie.After-share-at) → c .share-at .result * c .before .before .args .d ≤ 200000000000
+first-cap : (c : tie.After-share-at) → c .share-at .result * c .before .before .args .d ≤ 900000000000000
 first-cap c =
     let s = c .before .before .pre .0 in
-    product-cap 2000000000 100 (omega (arith, c .share-at .ensures, s .parts (c .before .apart .result), s .high)) (omega arith)
+    product-cap 9000000000000 100 (omega (arith, c .share-at .ensures, s .parts (c .before .apart .result), s .room)) (omega arith)
 
 mul-first : tie.Need-mul-first
 mul-first c = omega (arith, first-cap c)
@@ -34,10 +34,10 @@ apart-requires-2 c κs = search needs
 share-at-requires-2 : tie.Need-share-at-requires-2
 share-at-requires-2 c κs = search needs
 
-near-cap : (c : tie.After-share-at2) → let a = c .before .before .before .before .args in (a .d - a .r) * c .share-at2 .result ≤ 200000000000
+near-cap : (c : tie.After-share-at2) → let a = c .before .before .before .before .args in (a .d - a .r) * c .share-at2 .result ≤ 900000000000000
 near-cap c =
     let s = c .before .before .before .before .pre .0 in
-    product-cap 100 2000000000 (omega arith) (omega (arith, c .share-at2 .ensures, s .parts (c .before .apart2 .result), s .high))
+    product-cap 100 9000000000000 (omega arith) (omega (arith, c .share-at2 .ensures, s .parts (c .before .apart2 .result), s .room))
 
 mul-near : tie.Need-mul-near
 mul-near c = omega (arith, near-cap c)
@@ -51,10 +51,10 @@ apart-requires-3 c κs = search needs
 share-at-requires-3 : tie.Need-share-at-requires-3
 share-at-requires-3 c κs = search needs
 
-far-cap : (c : tie.After-share-at3) → c .before .before .before .before .before .before .args .r * c .share-at3 .result ≤ 200000000000
+far-cap : (c : tie.After-share-at3) → c .before .before .before .before .before .before .args .r * c .share-at3 .result ≤ 900000000000000
 far-cap c =
     let s = c .before .before .before .before .before .before .pre .0 in
-    product-cap 100 2000000000 (omega arith) (omega (arith, c .share-at3 .ensures, s .parts (c .before .apart3 .result), s .high))
+    product-cap 100 9000000000000 (omega arith) (omega (arith, c .share-at3 .ensures, s .parts (c .before .apart3 .result), s .room))
 
 mul-far : tie.Need-mul-far
 mul-far c = omega (arith, far-cap c)
