@@ -47,6 +47,9 @@ a ⊖ b = record { num = a .num * b .den - b .num * a .den; den = a .den * b .de
 unfoldable pub square : Fraction → Fraction
 square a = a · a
 
+unfoldable pub cube : Fraction → Fraction
+cube a = a · a · a
+
 -- at most, less than and equal, by multiplying out
 pub record _⊑_ (a b : Fraction) : Type 0 where
   pub out : a .num * b .den ≤ b .num * a .den

@@ -19,7 +19,7 @@ use Rattle.spread.specs.Scaled.{part, SharesOf, Bounded, apart, scaledCa
 use Rattle.spread.specs.Spread.{Spread, spreadOf, share}
 use Rattle.spread.specs.Stiffness.{tenThousandths}
 use Rattle.spread.specs.declared.shares.Shares.{Shares}
-use Rattle.spread.proofs.Counted.{far-share}
+use Rattle.spread.proofs.Scaled.{factor-above-0, far-share}
 use Rattle.spread.proofs.Spreads.{Sensible, sensible}
 
 -- "With E = md + r (m whole, r below d)"
@@ -91,12 +91,8 @@ module _ {s : Spread} (ok : Sensible s) (d E : ℕ) (pd : 0 < d) where
   -- the loaded stringer carries something
   greatest-above-0 : 0 < greatestCarried s d E .num
   unfolding carried _⊕_
-  greatest-above-0 = above _ _ _ _ (no-more (pos 0) .out) (mul-pos loaded (greatest-sound .above-0))
+  greatest-above-0 = factor-above-0 _ _ _ (no-more (pos 0) .out) (mul-pos loaded (greatest-sound .above-0))
     where
-      above : (a b x y : ℕ) → a * b ≤ x * y → 0 < a * b → 0 < x
-      above a b zero y h p = absurd (omega arith)
-      above a b (suc x) y h p = omega arith
-
       loaded : 0 < carried s d E (pos 0) .num
       loaded = omega (arith, mul-pos (ok .loaded) (second-wheel (d - rest d E) (rest d E) (away (pos 0) (spacings d E)) (away (pos 0) (spacings d E + 1)) .above-0))
 
@@ -106,11 +102,8 @@ greatest-over-all k d E p = record { no-more = no-more (sensible k) d E p; given
 pub beta-above-0 : (k d E : ℕ) → 0 < d → 0 < beta k d E
 unfolding beta whole _·_
 beta-above-0 k d E p =
-    above _ _ _ (rounded-up _ (·-sound (greatest-sound (sensible k) d E p) (whole-sound 10000)) .never-below .out) (greatest-above-0 (sensible k) d E p)
-  where
-    above : (n b c : ℕ) → n * 10000 * 1 ≤ b * c → 0 < n → 0 < b
-    above n zero c h p = absurd (omega arith)
-    above n (suc b) c h p = omega arith
+    let most = greatest-above-0 (sensible k) d E p in
+    factor-above-0 _ _ _ (rounded-up _ (·-sound (greatest-sound (sensible k) d E p) (whole-sound 10000)) .never-below .out) (omega arith)
 
 -- the code's whole numbers
 module _ (k d E : ℕ) (s : Shares) (h : SharesOf (spreadOf (tenThousandths k)) s) (b : Bounded s) (pd : 0 < d) where
@@ -140,7 +133,7 @@ module _ (k d E : ℕ) (s : Shares) (h : SharesOf (spreadOf (tenThousandths k)) 
       ceiling-same (over-sound _ _ divisor-above-0) (·-sound (greatest-sound (sensible k) d E pd) (whole-sound 10000))
       (≐-trans (·-sound (over-sound most _ divisor-above-0) (whole-sound 10000)) multiplied (·-same most-is ≐-refl))
 
--- each share is at most the loaded stringer's, so no stringer carries more than it would of both wheels
+-- no stringer carries more than twice the loaded stringer's share
 pub most-cap : {s : Shares} (d m r n : ℕ) → Bounded s → r ≤ d → top (scaledCarried s d m r) n ≤ 2 * (s .own * d)
 unfolding scaledCarried
 most-cap {s} d m r n b h = of-top (λ t. t ≤ 2 * (s .own * d)) _ n (omega arith) (λ i l. each (apart i 3) (apart i (m + 3)) (apart i (m + 4)))

@@ -1,5 +1,5 @@
 pub mod Carried
-pub mod Counted
 pub mod Moments
+pub mod Scaled
 pub mod Spreads
 pub mod StiffnessNumber

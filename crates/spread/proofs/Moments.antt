@@ -3,11 +3,11 @@
 use Prim.Native.Nat.{ℕ, _+_, _*_, _≤_}
 use mathlib.Core.Path.{ap}
 use native.Mathlib.Omega.{arith}
-use Rattle.section.specs.Fraction.{Fraction, Sound, over, whole, _·_, _÷_, _⊕_, _≐_}
+use Rattle.section.specs.Fraction.{Fraction, Sound, over, whole, cube, _·_, _÷_, _⊕_, _≐_}
 use Rattle.section.proofs.Order.{≐-sym, ·-sound, ÷-sound, ⊕-sound, whole-sound, ⊕-over, times-over}
 use Rattle.section.proofs.Products.{product-cap}
 use Rattle.section.proofs.Sections.{sawn-modulus-sound}
-use Rattle.spread.specs.Inertia.{cube, inertia, logInertia, tieredInertia, sawnInertia, deckInertia}
+use Rattle.spread.specs.Inertia.{inertia, logInertia, tieredInertia, sawnInertia, deckInertia}
 
 inertia-sound : {W h : Fraction} → Sound W → Sound h → Sound (inertia W h)
 unfolding inertia whole

@@ -6,30 +6,29 @@ use native.Mathlib.Decide.{decLe}
 use native.Mathlib.Omega.{arith}
 use borrow.Author.Tests.{le-leb, lt-leb}
 use Rattle.section.specs.Choose.{choose}
-use Rattle.section.specs.Fraction.{Fraction, Sound, over, square, atMost, _·_, _⊑_, _⊏_}
+use Rattle.section.specs.Fraction.{Fraction, Sound, over, square, cube, atMost, _·_, _⊑_, _⊏_}
 use Rattle.section.proofs.Order.{≐-refl, ≐-sym, in-smaller-unit, over-sound}
 use Rattle.section.proofs.Products.{product-cap}
-use Rattle.spread.specs.Inertia.{cube}
-use Rattle.spread.specs.Spread.{Spread, threeStringers, fiveStringers, threeOrFive, sevenStringers, SEVEN-BELOW, spreadOf, NothingMoves, numerator, share, EverySpreadAddsToOne}
+use Rattle.spread.specs.Spread.{Spread, threeStringers, fiveStringers, threeOrFive, sevenStringers, SEVEN-BELOW, spreadOf, NothingMoves, share, EverySpreadAddsToOne}
 use Rattle.spread.specs.Stiffness.{tenThousandths}
-use Rattle.spread.specs.Scaled.{part, Bounded}
+use Rattle.spread.specs.Scaled.{Bounded}
 use Rattle.spread.specs.declared.shares.Shares.{Shares}
-use Rattle.spread.proofs.Counted.{at-every, Is, Uncut, whole-is, plus, times, difference, total, same, Counted, own-above-0, adds-up, bounded}
+use Rattle.spread.proofs.Scaled.{Over, whole-over, plus, times, of-difference, of-sum, same, Scaled, own-above-0, adds-up, bounded}
 
 -- k and its powers over one power of 10,000
-linear-is : (k : ℕ) → Is 10000 (tenThousandths k) k
-linear-is k = record { sound = over-sound k 10000 (omega arith); is = ≐-refl }
+linear-over : (k : ℕ) → Over 10000 (tenThousandths k) k
+linear-over k = record { sound = over-sound k 10000 (omega arith); is = ≐-refl }
 
-in-unit : (c D : ℕ) {a : Fraction} {x : ℕ} → Is D a x → Is (c * D) a (c * x)
+in-unit : (c D : ℕ) {a : Fraction} {x : ℕ} → Over D a x → Over (c * D) a (c * x)
 in-unit c D {x = x} p = record { sound = p .sound; is = ≐-sym (in-smaller-unit c x D (≐-sym (p .is))) }
 
-square-is : (k : ℕ) → Is 100000000 (square (tenThousandths k)) (k * k)
+square-over : (k : ℕ) → Over 100000000 (square (tenThousandths k)) (k * k)
 unfolding square over _·_
-square-is k = record { sound = record { above-0 = omega arith }; is = record { out = omega arith } }
+square-over k = record { sound = record { above-0 = omega arith }; is = record { out = omega arith } }
 
-cube-is : (k : ℕ) → Is 1000000000000 (cube (tenThousandths k)) (k * k * k)
+cube-over : (k : ℕ) → Over 1000000000000 (cube (tenThousandths k)) (k * k * k)
 unfolding cube over _·_
-cube-is k = record { sound = record { above-0 = omega arith }; is = record { out = omega arith } }
+cube-over k = record { sound = record { above-0 = omega arith }; is = record { out = omega arith } }
 
 -- how high the powers go
 pub five-powers : (k : ℕ) → 3 * k < 10000 → k * k ≤ 11108889
@@ -45,11 +44,11 @@ seven-powers k h =
     record { square = square; cube = product-cap 301401 549 square (omega arith) }
 
 -- the whole numbers of each spread
-abbrev threeWhole : ℕ → Shares
-threeWhole k = record { own = 10000 + 2 * k; next = 10000; second = 0; third = 0; divisor = 30000 + 2 * k }
+abbrev threeShares : ℕ → Shares
+threeShares k = record { own = 10000 + 2 * k; next = 10000; second = 0; third = 0; divisor = 30000 + 2 * k }
 
-abbrev fiveWhole : ℕ → Shares
-fiveWhole k =
+abbrev fiveShares : ℕ → Shares
+fiveShares k =
     let linear = 10000 * k in
     let square = k * k in
     record {
@@ -60,8 +59,8 @@ fiveWhole k =
       divisor = 500000000 + 34 * linear + 7 * square;
     }
 
-abbrev sevenWhole : ℕ → Shares
-sevenWhole k =
+abbrev sevenShares : ℕ → Shares
+sevenShares k =
     let linear = 100000000 * k in
     let square = 10000 * (k * k) in
     let cube = k * k * k in
@@ -73,76 +72,67 @@ sevenWhole k =
       divisor = 7000000000000 + 196 * linear + 193 * square + 26 * cube;
     }
 
-pub three-counted : (k : ℕ) → Counted (threeStringers (tenThousandths k)) (threeWhole k)
+pub three-scaled : (k : ℕ) → Scaled (threeStringers (tenThousandths k)) (threeShares k)
 unfolding threeStringers
-three-counted k =
-    let linear = linear-is k in
+three-scaled k =
+    let linear = linear-over k in
     record {
       D = 10000;
       D-above-0 = omega arith;
-      numerators =
-          at-every (λ away. Uncut 10000 (numerator (threeStringers (tenThousandths k)) away) (part (threeWhole k) away))
-          (total (omega arith) (plus (whole-is _) (times _ linear)) (omega arith))
-          (total (omega arith) (whole-is _) (omega arith))
-          (total (omega arith) (whole-is _) (omega arith))
-          (total (omega arith) (whole-is _) (omega arith))
-          (λ away. total (omega arith) (whole-is _) (omega arith));
-      divisor = same (plus (whole-is _) (times _ linear)) (omega arith);
+      own = of-sum (omega arith) (plus (whole-over _) (times _ linear)) (omega arith);
+      next = of-sum (omega arith) (whole-over _) (omega arith);
+      second = of-sum (omega arith) (whole-over _) (omega arith);
+      third = of-sum (omega arith) (whole-over _) (omega arith);
+      divisor = same (plus (whole-over _) (times _ linear)) (omega arith);
       loaded = omega arith;
       adds = omega arith;
     }
 
-pub five-counted : (k : ℕ) → 3 * k < 10000 → Counted (fiveStringers (tenThousandths k)) (fiveWhole k)
+pub five-scaled : (k : ℕ) → 3 * k < 10000 → Scaled (fiveStringers (tenThousandths k)) (fiveShares k)
 unfolding fiveStringers
-five-counted k h =
-    let linear = in-unit 10000 10000 (linear-is k) in
-    let square = square-is k in
+five-scaled k h =
+    let linear = in-unit 10000 10000 (linear-over k) in
+    let square = square-over k in
     record {
       D = 100000000;
       D-above-0 = omega arith;
-      numerators =
-          at-every (λ away. Uncut 100000000 (numerator (fiveStringers (tenThousandths k)) away) (part (fiveWhole k) away))
-          (total (omega arith) (plus (plus (whole-is _) (times _ linear)) (times _ square)) (omega arith))
-          (total (omega arith) (plus (whole-is _) (times _ linear)) (omega arith))
-          (difference (omega arith) (whole-is _) (times _ linear) (omega arith) (omega arith))
-          (total (omega arith) (whole-is _) (omega arith))
-          (λ away. total (omega arith) (whole-is _) (omega arith));
-      divisor = same (plus (plus (whole-is _) (times _ linear)) (times _ square)) (omega arith);
+      own = of-sum (omega arith) (plus (plus (whole-over _) (times _ linear)) (times _ square)) (omega arith);
+      next = of-sum (omega arith) (plus (whole-over _) (times _ linear)) (omega arith);
+      second = of-difference (omega arith) (whole-over _) (times _ linear) (omega arith) (omega arith);
+      third = of-sum (omega arith) (whole-over _) (omega arith);
+      divisor = same (plus (plus (whole-over _) (times _ linear)) (times _ square)) (omega arith);
       loaded = omega arith;
       adds = omega arith;
     }
 
-pub seven-counted : (k : ℕ) → k < 550 → Counted (sevenStringers (tenThousandths k)) (sevenWhole k)
+pub seven-scaled : (k : ℕ) → k < 550 → Scaled (sevenStringers (tenThousandths k)) (sevenShares k)
 unfolding sevenStringers
-seven-counted k h =
-    let linear = in-unit 100000000 10000 (linear-is k) in
-    let square = in-unit 10000 100000000 (square-is k) in
-    let cube = cube-is k in
+seven-scaled k h =
+    let linear = in-unit 100000000 10000 (linear-over k) in
+    let square = in-unit 10000 100000000 (square-over k) in
+    let cube = cube-over k in
     let high = seven-powers k h in
     record {
       D = 1000000000000;
       D-above-0 = omega arith;
-      numerators =
-          at-every (λ away. Uncut 1000000000000 (numerator (sevenStringers (tenThousandths k)) away) (part (sevenWhole k) away))
-          (total (omega arith) (plus (plus (plus (whole-is _) (times _ linear)) (times _ square)) (times _ cube)) (omega arith))
-          (total (omega arith) (plus (plus (whole-is _) (times _ linear)) (times _ square)) (omega arith))
-          (difference (omega arith) (plus (whole-is _) (times _ linear)) (times _ square) (omega arith) (omega arith))
-          (difference (omega arith) (plus (whole-is _) (times _ square)) (times _ linear) (omega arith) (omega arith))
-          (λ away. total (omega arith) (whole-is _) (omega arith));
-      divisor = same (plus (plus (plus (whole-is _) (times _ linear)) (times _ square)) (times _ cube)) (omega arith);
+      own = of-sum (omega arith) (plus (plus (plus (whole-over _) (times _ linear)) (times _ square)) (times _ cube)) (omega arith);
+      next = of-sum (omega arith) (plus (plus (whole-over _) (times _ linear)) (times _ square)) (omega arith);
+      second = of-difference (omega arith) (plus (whole-over _) (times _ linear)) (times _ square) (omega arith) (omega arith);
+      third = of-difference (omega arith) (plus (whole-over _) (times _ square)) (times _ linear) (omega arith) (omega arith);
+      divisor = same (plus (plus (plus (whole-over _) (times _ linear)) (times _ square)) (times _ cube)) (omega arith);
       loaded = omega arith;
       adds = omega arith;
     }
 
--- the loaded stringer's share is the greatest of each
-pub three-bounded : (k : ℕ) → k ≤ 100000 → Bounded (threeWhole k)
-three-bounded k h = bounded (three-counted k) (omega arith) (omega arith) (omega arith) (omega arith)
+-- in each spread the loaded stringer's share is the greatest
+pub three-bounded : (k : ℕ) → k ≤ 100000 → Bounded (threeShares k)
+three-bounded k h = bounded (three-scaled k) (omega arith) (omega arith) (omega arith) (omega arith)
 
-pub five-bounded : (k : ℕ) → 3 * k < 10000 → Bounded (fiveWhole k)
-five-bounded k h = let high = five-powers k h in bounded (five-counted k h) (omega arith) (omega arith) (omega arith) (omega arith)
+pub five-bounded : (k : ℕ) → 3 * k < 10000 → Bounded (fiveShares k)
+five-bounded k h = let high = five-powers k h in bounded (five-scaled k h) (omega arith) (omega arith) (omega arith) (omega arith)
 
-pub seven-bounded : (k : ℕ) → k < 550 → Bounded (sevenWhole k)
-seven-bounded k h = let high = seven-powers k h in bounded (seven-counted k h) (omega arith) (omega arith) (omega arith) (omega arith)
+pub seven-bounded : (k : ℕ) → k < 550 → Bounded (sevenShares k)
+seven-bounded k h = let high = seven-powers k h in bounded (seven-scaled k h) (omega arith) (omega arith) (omega arith) (omega arith)
 
 -- the spread by kept k: "below 0.055", "of 1/3 or more"
 first-chosen : (a b : Fraction) (x y : Spread) → a ⊑ b → choose (atMost a b) x y ≡ x
@@ -178,20 +168,20 @@ spread-of-seven k h =
     other-chosen SEVEN-BELOW t (threeOrFive t) (sevenStringers t) (record { out = omega arith })
 
 -- one case a spread
-counted : (k : ℕ) → (s : Shares) × Counted (spreadOf (tenThousandths k)) s
-counted k =
+scaled : (k : ℕ) → (s : Shares) × Scaled (spreadOf (tenThousandths k)) s
+scaled k =
     elim (decLe 550 k) [
-      | no h ↦ (sevenWhole k, rw (spread-of-seven k (omega arith)) (seven-counted k (omega arith)))
+      | no h ↦ (sevenShares k, rw (spread-of-seven k (omega arith)) (seven-scaled k (omega arith)))
       | yes l ↦
           elim (decLe 10000 (3 * k)) [
-            | no h ↦ (fiveWhole k, rw (spread-of-five k l (omega arith)) (five-counted k (omega arith)))
-            | yes h ↦ (threeWhole k, rw (spread-of-three k h) (three-counted k))
+            | no h ↦ (fiveShares k, rw (spread-of-five k l (omega arith)) (five-scaled k (omega arith)))
+            | yes h ↦ (threeShares k, rw (spread-of-three k h) (three-scaled k))
           ]
     ]
 
 -- "It is shown over all three spreads together that the shares, both sides counted, add to one and none is negative."
 pub adds-to-one : EverySpreadAddsToOne
-adds-to-one k = adds-up (counted k .1)
+adds-to-one k = adds-up (scaled k .1)
 
 -- what the laws of β ask of a spread: fractions with divisors above 0, and some load on the loaded stringer
 pub record Sensible (s : Spread) : Type 0 where
@@ -199,4 +189,4 @@ pub record Sensible (s : Spread) : Type 0 where
   pub loaded : 0 < share s 0 .num
 
 pub sensible : (k : ℕ) → Sensible (spreadOf (tenThousandths k))
-sensible k = record { shares = adds-to-one k .sound; loaded = own-above-0 (counted k .1) }
+sensible k = record { shares = adds-to-one k .sound; loaded = own-above-0 (scaled k .1) }

@@ -1,5 +1,5 @@
 -- β of formula (10): the most that the two wheels of an axle put on a stringer together, as a part of one wheel's load. Document 02,
--- request 2/13.
+-- request 2/13, with the shares of 7/13.
 use Prim.Native.Nat.{ℕ, suc, _+_, _-_, _*_, _/_, _%_, _<_}
 use mathlib.Core.Path.{_≡_}
 use lib.IntN.{ℤ, pos, negsuc, subℕ}

@@ -1,11 +1,8 @@
 -- Moments of inertia of a stringer and of the deck's boards, in cm⁴. Document 02, request 2/13.
 use Prim.Native.Nat.{ℕ, _-_}
-use Rattle.section.specs.Fraction.{Fraction, whole, _·_, _÷_, _⊕_}
+use Rattle.section.specs.Fraction.{Fraction, whole, cube, _·_, _÷_, _⊕_}
 use Rattle.section.specs.Log.{netDiameter, logModulus}
 use Rattle.section.specs.Sawn.{sawnModulus}
-
-unfoldable pub cube : Fraction → Fraction
-cube a = a · a · a
 
 -- "I is W times half the net height"
 unfoldable pub inertia : (W height : Fraction) → Fraction

@@ -15,13 +15,13 @@ part s away = getD (s .own ∷ s .next ∷ s .second ∷ s .third ∷ []) away 0
 abbrev pub SharesOf : Spread → Shares → Type 0
 SharesOf spread s = (away : ℕ) → share spread away ≐ over (part s away) (s .divisor)
 
--- no share is above the loaded stringer's, nor that above the whole
+-- no share is above the loaded stringer's, and that is not above the whole
 pub record Bounded (s : Shares) : Type 0 where
   pub above-0 : 0 < s .divisor
   pub parts : (away : ℕ) → part s away ≤ s .own
   pub own-high : s .own ≤ s .divisor
-  -- times a spacing of 100, 64 bits hold 10,000 times what the loaded stringer would carry of two wheels, and the divisor. They would not
-  -- hold 20,000 times the divisor of seven stringers, but there the loaded one has less than 0.3
+  -- At a spacing of 100, 64 bits hold β's numerator, at most 10,000 times twice the loaded stringer's part, and with it its divisor. They would
+  -- not hold 20,000 times the divisor of seven stringers, but there the loaded one has less than 0.3.
   pub room : 20000 * s .own + s .divisor ≤ 180000000000000000
 
 -- how far two stringers stand apart

@@ -4,8 +4,7 @@ use mathlib.Core.Path.{_≡_}
 use mathlib.Core.List.{[], _∷_}
 use lib.ListN.{getD}
 use Rattle.section.specs.Choose.{choose}
-use Rattle.section.specs.Fraction.{Fraction, Sound, over, whole, square, atMost, _·_, _÷_, _⊕_, _⊖_, _⊑_, _≐_}
-use Rattle.spread.specs.Inertia.{cube}
+use Rattle.section.specs.Fraction.{Fraction, Sound, over, whole, square, cube, atMost, _·_, _÷_, _⊕_, _⊖_, _⊑_, _≐_}
 use Rattle.spread.specs.Stiffness.{tenThousandths}
 
 -- a share's numerator: what is added and what is taken away. It is negative where more is taken away than added
@@ -58,7 +57,8 @@ fiveStringers k =
 unfoldable pub threeOrFive : (k : Fraction) → Spread
 threeOrFive k = choose (atMost (over 1 3) k) (threeStringers k) (fiveStringers k)
 
--- request 7/13: "For k below 0.055 the shares are 1+72k+131k²+26k³, 1+57k+46k², 1+23k−18k², 1−18k+3k² over 7+196k+193k²+26k³."
+-- request 7/13: "For k below 0.055 the shares are 1+72k+131k²+26k³, 1+57k+46k², 1+23k−18k², 1−18k+3k² over 7+196k+193k²+26k³." Of the last
+-- numerator what is added stands first
 unfoldable pub sevenStringers : (k : Fraction) → Spread
 sevenStringers k =
     record {
@@ -73,27 +73,31 @@ sevenStringers k =
 abbrev pub SEVEN-BELOW : Fraction
 SEVEN-BELOW = over 55 1000
 
+-- seven stringers there, else as request 2/13 has it
 unfoldable pub spreadOf : (k : Fraction) → Spread
 spreadOf k = choose (atMost SEVEN-BELOW k) (threeOrFive k) (sevenStringers k)
 
 -- "At 0.055 and above nothing moves."
 abbrev pub NothingMoves : Type 0
-NothingMoves = (k : Fraction) → SEVEN-BELOW ⊑ k → spreadOf k ≡ threeOrFive k
+NothingMoves = (k : Fraction) → over 55 1000 ⊑ k → spreadOf k ≡ threeOrFive k
 
--- of a stringer that stands this many spacings away: request 2/13, "Any stringer farther off has share 0."
+-- the numerator of a stringer that stands this many spacings away; request 2/13: "Any stringer farther off has share 0."
 abbrev pub numerator : Spread → (away : ℕ) → Numerator
 numerator s away = getD (s .own ∷ s .next ∷ s .second ∷ s .third ∷ []) away (sum (whole 0))
 
+-- its share
 unfoldable pub share : Spread → (away : ℕ) → Fraction
 share s away = value (numerator s away) ÷ s .divisor
 
--- "the shares, both sides counted, add to one and none is negative": the loaded stringer, three neighbours on each side, nothing farther off
+-- "the shares, both sides counted, add to one and none is negative"
 pub record AddsToOne (s : Spread) : Type 0 where
+  -- every divisor is above 0, else multiplying out would say nothing
   pub sound : (away : ℕ) → Sound (share s away)
   pub adds : share s 0 ⊕ whole 2 · (share s 1 ⊕ share s 2 ⊕ share s 3) ≐ whole 1
+  -- so nothing is cut at 0
   pub none-negative : (away : ℕ) → numerator s away .taken ⊑ numerator s away .added
   pub none-farther : (away : ℕ) → 4 ≤ away → share s away ≐ whole 0
 
--- "It is shown over all three spreads together": at every stiffness number that is kept
+-- "It is shown over all three spreads together": at every whole number of ten-thousandths
 abbrev pub EverySpreadAddsToOne : Type 0
 EverySpreadAddsToOne = (k : ℕ) → AddsToOne (spreadOf (tenThousandths k))

@@ -2,8 +2,7 @@
 use Prim.Native.Nat.{ℕ, min}
 use lib.Dec.{eqb}
 use Rattle.section.specs.Choose.{choose}
-use Rattle.section.specs.Fraction.{Fraction, over, whole, floor, _·_, _÷_, _⊕_, _⊑_, _⊏_}
-use Rattle.spread.specs.Inertia.{cube}
+use Rattle.section.specs.Fraction.{Fraction, over, whole, cube, floor, _·_, _÷_, _⊕_, _⊑_, _⊏_}
 
 -- "k = 8d³I / (l³J)"
 unfoldable pub stiffness : (d I l J : Fraction) → Fraction

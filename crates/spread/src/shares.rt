@@ -1,5 +1,5 @@
-// The shares of a spread as whole numbers over one divisor. k is in ten-thousandths: the document's sums are multiplied by 10,000, its square or
-// its cube, as they have k, k² or k³ in them.
+// The shares of a spread as whole numbers over one divisor. k is in ten-thousandths: the document's polynomials are multiplied by 10,000, its
+// square or its cube, by the highest power of k in them.
 ghost use mathlib.Core.Path.{_≡_};
 ghost use Prim.Native.Nat.{_*_, _≤_, _<_};
 ghost use Rattle.spread.specs.Spread.{threeStringers, fiveStringers, sevenStringers, spreadOf};
@@ -18,7 +18,7 @@ pub struct Shares {
 // 0.055, in ten-thousandths: below it seven stringers share.
 const SEVEN_BELOW: u64 = 550;
 
-// k of 1/3 or more.
+// Where k is 1/3 or more.
 fn three_stringers(k: u64) -> Shares
     requires { ⌜ k ≤ 100000 ⌝ }
     ensures is { λ r. ⌜ SharesOf (threeStringers (tenThousandths k)) r ⌝ }
@@ -34,7 +34,7 @@ fn three_stringers(k: u64) -> Shares
     }
 }
 
-// k below 1/3.
+// Where k is below 1/3, but not below 0.055.
 fn five_stringers(k: u64) -> Shares
     requires { ⌜ 3 * k < 10000 ⌝ }
     ensures is { λ r. ⌜ SharesOf (fiveStringers (tenThousandths k)) r ⌝ }
@@ -52,7 +52,7 @@ fn five_stringers(k: u64) -> Shares
     }
 }
 
-// k below 0.055.
+// Where k is below 0.055.
 fn seven_stringers(k: u64) -> Shares
     requires { ⌜ k < 550 ⌝ }
     ensures is { λ r. ⌜ SharesOf (sevenStringers (tenThousandths k)) r ⌝ }

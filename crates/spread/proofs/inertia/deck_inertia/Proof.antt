@@ -1,8 +1,8 @@
 -- `spread::inertia::deck_inertia` meets its contract: the formula of J, times twelve.
 -- Assumes nothing.
 use native.Mathlib.Omega.{arith}
-use Rattle.section.specs.Fraction.{over, whole, _·_, _÷_}
-use Rattle.spread.specs.Inertia.{cube, deckInertia}
+use Rattle.section.specs.Fraction.{over, whole, cube, _·_, _÷_}
+use Rattle.spread.specs.Inertia.{deckInertia}
 use Rattle.spread.proofs.Moments.{DeckCaps, deck-caps}
 use borrow.Author.Needs.{needs}
 use Rattle.spread.proofs.inertia.deck_inertia.Statement.{statement}

@@ -2,8 +2,8 @@
 -- Assumes nothing.
 use native.Mathlib.Omega.{arith}
 use borrow.Author.Needs.{needs}
-use Rattle.spread.proofs.Counted.{written}
-use Rattle.spread.proofs.Spreads.{five-powers, five-counted, five-bounded}
+use Rattle.spread.proofs.Scaled.{written}
+use Rattle.spread.proofs.Spreads.{five-powers, five-scaled, five-bounded}
 use Rattle.spread.proofs.shares.five_stringers.Statement.{statement}
 use Rattle.spread.proofs.shares.five_stringers.Tie as tie
 
@@ -53,7 +53,7 @@ add-t17 : tie.Need-add-t17
 add-t17 c = let p = five-powers (c .args .k) (c .pre) in omega arith
 
 returns : tie.Need-returns
-returns c = written (omega arith) (omega arith) (omega arith) (omega arith) (omega arith) (five-counted (c .args .k) (c .pre)) (five-bounded (c .args .k) (c .pre))
+returns c = written (omega arith) (omega arith) (omega arith) (omega arith) (omega arith) (five-scaled (c .args .k) (c .pre)) (five-bounded (c .args .k) (c .pre))
 
 pub five-stringers-spec : {M : Type 1} → statement M
 five-stringers-spec =

@@ -2,8 +2,8 @@
 -- Assumes nothing.
 use native.Mathlib.Omega.{arith}
 use borrow.Author.Needs.{needs}
-use Rattle.spread.proofs.Counted.{written}
-use Rattle.spread.proofs.Spreads.{seven-powers, seven-counted, seven-bounded}
+use Rattle.spread.proofs.Scaled.{written}
+use Rattle.spread.proofs.Spreads.{seven-powers, seven-scaled, seven-bounded}
 use Rattle.spread.proofs.shares.seven_stringers.Statement.{statement}
 use Rattle.spread.proofs.shares.seven_stringers.Tie as tie
 
@@ -98,7 +98,7 @@ add-t30 : tie.Need-add-t30
 add-t30 c = let p = seven-powers (c .args .k) (c .pre) in omega arith
 
 returns : tie.Need-returns
-returns c = written (omega arith) (omega arith) (omega arith) (omega arith) (omega arith) (seven-counted (c .args .k) (c .pre)) (seven-bounded (c .args .k) (c .pre))
+returns c = written (omega arith) (omega arith) (omega arith) (omega arith) (omega arith) (seven-scaled (c .args .k) (c .pre)) (seven-bounded (c .args .k) (c .pre))
 
 pub seven-stringers-spec : {M : Type 1} → statement M
 seven-stringers-spec =

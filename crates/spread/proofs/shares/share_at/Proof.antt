@@ -1,7 +1,7 @@
 -- `spread::shares::share_at` meets its contract: the tests that led to each answer say which entry of the shares it is.
 -- Assumes nothing.
 use native.Mathlib.Omega.{arith}
-use Rattle.spread.proofs.Counted.{far-part}
+use Rattle.spread.proofs.Scaled.{far-part}
 use borrow.Author.Needs.{needs}
 use Rattle.spread.proofs.shares.share_at.Statement.{statement}
 use Rattle.spread.proofs.shares.share_at.Tie as tie

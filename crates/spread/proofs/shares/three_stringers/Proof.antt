@@ -1,9 +1,9 @@
--- `spread::shares::three_stringers` meets its contract: the document's sums times 10,000.
+-- `spread::shares::three_stringers` meets its contract: the document's polynomials times 10,000.
 -- Assumes nothing.
 use native.Mathlib.Omega.{arith}
 use borrow.Author.Needs.{needs}
-use Rattle.spread.proofs.Counted.{written}
-use Rattle.spread.proofs.Spreads.{three-counted, three-bounded}
+use Rattle.spread.proofs.Scaled.{written}
+use Rattle.spread.proofs.Spreads.{three-scaled, three-bounded}
 use Rattle.spread.proofs.shares.three_stringers.Statement.{statement}
 use Rattle.spread.proofs.shares.three_stringers.Tie as tie
 
@@ -23,7 +23,7 @@ add-t7 : tie.Need-add-t7
 add-t7 c = search needs
 
 returns : tie.Need-returns
-returns c = written (omega arith) (omega arith) (omega arith) (omega arith) (omega arith) (three-counted (c .args .k)) (three-bounded (c .args .k) (c .pre))
+returns c = written (omega arith) (omega arith) (omega arith) (omega arith) (omega arith) (three-scaled (c .args .k)) (three-bounded (c .args .k) (c .pre))
 
 pub three-stringers-spec : {M : Type 1} → statement M
 three-stringers-spec =
