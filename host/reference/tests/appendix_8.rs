@@ -1,38 +1,38 @@
 //! The shares of closely spaced stringers against appendix 8 of VSN 12-73, which prints them by k
-//! for three and for five stringers, and against example 2.
+//! for three, five and seven stringers, and against example 2.
 
 use reference::spread::{beta, shares, Shares, WHOLE};
 
 /// k in ten-thousandths, then the shares in thousandths, as printed.
-type Row = (i128, [i128; 3]);
+type Row<const PRINTED: usize> = (i128, [i128; PRINTED]);
 
-/// "На три элемента": α₁, α₂. Four rows more are printed below 1/3, where five stringers share.
-const THREE: [Row; 20] = [
-    (100_000, [914, 43, 0]),
-    (90_000, [904, 48, 0]),
-    (80_000, [894, 53, 0]),
-    (70_000, [882, 59, 0]),
-    (60_000, [866, 67, 0]),
-    (50_000, [846, 77, 0]),
-    (40_000, [818, 91, 0]),
-    (35_000, [800, 100, 0]),
-    (30_000, [778, 111, 0]),
-    (25_000, [750, 125, 0]),
-    (20_000, [714, 143, 0]),
-    (15_000, [666, 167, 0]),
-    (10_000, [600, 200, 0]),
-    (9000, [582, 209, 0]),
-    (8000, [564, 218, 0]),
-    (7000, [544, 228, 0]),
-    (6000, [524, 238, 0]),
-    (5000, [500, 250, 0]),
-    (4000, [474, 263, 0]),
+/// "На три элемента": α₁, α₂. Four rows more are printed below 1/3, where more stringers share.
+const THREE: [Row<2>; 20] = [
+    (100_000, [914, 43]),
+    (90_000, [904, 48]),
+    (80_000, [894, 53]),
+    (70_000, [882, 59]),
+    (60_000, [866, 67]),
+    (50_000, [846, 77]),
+    (40_000, [818, 91]),
+    (35_000, [800, 100]),
+    (30_000, [778, 111]),
+    (25_000, [750, 125]),
+    (20_000, [714, 143]),
+    (15_000, [666, 167]),
+    (10_000, [600, 200]),
+    (9000, [582, 209]),
+    (8000, [564, 218]),
+    (7000, [544, 228]),
+    (6000, [524, 238]),
+    (5000, [500, 250]),
+    (4000, [474, 263]),
     // Printed 0.333 for 1/3, and one ten-thousandth above it here.
-    (3334, [454, 273, 0]),
+    (3334, [454, 273]),
 ];
 
 /// "На пять элементов": α₁, α₂, α₃.
-const FIVE: [Row; 21] = [
+const FIVE: [Row<3>; 21] = [
     (3000, [444, 272, 6]),
     (2800, [436, 271, 11]),
     (2600, [430, 270, 15]),
@@ -56,23 +56,44 @@ const FIVE: [Row; 21] = [
     (550, [292, 233, 121]),
 ];
 
-/// Every share within 0.0015 of the printed one: multiplied out by 10,000 and the divisor.
-fn near(k: i128, printed: [i128; 3]) {
+/// "На семь элементов": α₁, α₂, α₃, α₄. The printed shares add to one but for their rounding, to
+/// 1.002 at the most.
+const SEVEN: [Row<4>; 8] = [
+    (500, [284, 228, 126, 4]),
+    (400, [268, 221, 128, 18]),
+    (300, [250, 211, 130, 35]),
+    (200, [226, 196, 134, 57]),
+    (100, [194, 175, 137, 91]),
+    (50, [170, 161, 140, 114]),
+    (10, [150, 147, 142, 136]),
+    (0, [143, 143, 143, 143]),
+];
+
+/// Every share within so many ten-thousandths of the printed one, multiplied out by the divisor,
+/// and none beyond those that are printed.
+fn near<const PRINTED: usize>((k, printed): Row<PRINTED>, within: i128) {
     let Shares { parts, divisor } = shares(k);
     for (part, thousandths) in parts.into_iter().zip(printed) {
         let apart = (10_000 * part - 10 * thousandths * divisor).abs();
-        assert!(apart <= 15 * divisor, "k {k}: {part} / {divisor}, printed {thousandths}");
+        assert!(apart <= within * divisor, "k {k}: {part} / {divisor}, printed {thousandths}");
     }
+    assert!(parts[PRINTED..].iter().all(|&part| part == 0), "k {k}: {parts:?}");
 }
 
 #[test]
 fn three_stringers_as_printed() {
-    THREE.into_iter().for_each(|(k, printed)| near(k, printed));
+    THREE.into_iter().for_each(|row| near(row, 15));
 }
 
 #[test]
 fn five_stringers_as_printed() {
-    FIVE.into_iter().for_each(|(k, printed)| near(k, printed));
+    FIVE.into_iter().for_each(|row| near(row, 15));
+}
+
+/// The farthest is α₃ at k = 0.05: printed 0.126, 2.105 / 17.28575 = 0.1218.
+#[test]
+fn seven_stringers_as_printed() {
+    SEVEN.into_iter().for_each(|row| near(row, 45));
 }
 
 /// "k = 0.159 gives the shares 0.38, 0.26, 0.05 of example 2", rounded to hundredths.
@@ -80,7 +101,7 @@ fn five_stringers_as_printed() {
 fn example_2() {
     let Shares { parts, divisor } = shares(1590);
     let hundredths = parts.map(|part| (200 * part + divisor) / (2 * divisor));
-    assert_eq!(hundredths, [38, 26, 5]);
+    assert_eq!(hundredths, [38, 26, 5, 0]);
 }
 
 /// Example 2 goes on: d = 60, E = 190 = 3 × 60 + 10. Printed are β = 0.381 under a wheel, which is
@@ -96,14 +117,37 @@ fn example_2_to_the_end() {
     assert_eq!((2 * 10 * 100_000 * front + divisor) / (2 * divisor), 334);
 }
 
-/// The shares of both sides add to one, and none is negative, for every k that can be kept.
+/// The shares of both sides add to one, and none is negative, for every k that can be kept: over
+/// seven stringers, over five and over three.
 #[test]
 fn the_shares_add_to_one() {
     for k in 0..=10 * WHOLE {
-        let Shares { parts: [own, next, second], divisor } = shares(k);
-        assert_eq!(own + 2 * next + 2 * second, divisor, "k {k}");
-        assert!(own > 0 && next > 0 && second >= 0, "k {k}");
+        let Shares { parts, divisor } = shares(k);
+        let [own, next, second, third] = parts;
+        assert_eq!(own + 2 * (next + second + third), divisor, "k {k}");
+        let reached = match k {
+            0..=549 => 4,
+            550..=3333 => 3,
+            _ => 2,
+        };
+        let (near, far) = parts.split_at(reached);
+        assert!(near.iter().all(|&part| part > 0), "k {k}: {parts:?}");
+        assert!(far.iter().all(|&part| part == 0), "k {k}: {parts:?}");
     }
+}
+
+/// 0.0549: 72k = 3.9528, k² = 0.00301401, k³ = 0.000165469149, so the loaded stringer has 1 + 3.9528
+/// + 0.39483531 + 0.004302197874; its neighbours have 1 + 3.1293 + 0.13864446, 1 + 1.2627 −
+/// 0.05425218 and 1 − 0.9882 + 0.00904203 over 7 + 10.7604 + 0.58170393 + 0.004302197874; times
+/// 10¹². 0.055: 1 + 0.99 + 0.021175, 1 + 0.605, 1 − 0.165 over 5 + 1.87 + 0.021175; times 10⁸.
+#[test]
+fn seven_stringers_below_0_055() {
+    let seven = Shares {
+        parts: [5_351_937_507_874, 4_267_944_460_000, 2_208_447_820_000, 20_842_030_000],
+        divisor: 18_346_406_127_874,
+    };
+    let five = Shares { parts: [201_117_500, 160_500_000, 83_500_000, 0], divisor: 689_117_500 };
+    assert_eq!([shares(549), shares(550)], [seven, five]);
 }
 
 /// 3333 ten-thousandths are below 1/3, 3334 are above: there the loads reach three stringers.
@@ -111,5 +155,5 @@ fn the_shares_add_to_one() {
 fn three_stringers_from_one_third() {
     // 1 − 3k is one ten-thousandth, times 10⁸.
     assert_eq!(shares(3333).parts[2], 10_000);
-    assert_eq!(shares(3334), Shares { parts: [16_668, 10_000, 0], divisor: 36_668 });
+    assert_eq!(shares(3334), Shares { parts: [16_668, 10_000, 0, 0], divisor: 36_668 });
 }
