@@ -73,26 +73,39 @@ fn stiffness_number(m: &Member) -> u64 {
     (10 * (stringer / deck) + rounded).min(100_000)
 }
 
-/// The shares of a stringer and of those one and two places off, and their divisor.
-fn shares(k: u64) -> ([u64; 3], u64) {
+/// The shares of a stringer and of those one, two and three places off, and their divisor.
+fn shares(k: u64) -> ([u64; 4], u64) {
     if 3 * k >= 10_000 {
-        return ([10_000 + 2 * k, 10_000, 0], 30_000 + 2 * k);
+        return ([10_000 + 2 * k, 10_000, 0, 0], 30_000 + 2 * k);
     }
-    let (linear, square) = (10_000 * k, 7 * k * k);
-    let own = 100_000_000 + 18 * linear + square;
-    let parts = [own, 100_000_000 + 11 * linear, 100_000_000 - 3 * linear];
-    (parts, 500_000_000 + 34 * linear + square)
+    if k >= 550 {
+        let (linear, square) = (10_000 * k, 7 * k * k);
+        let own = 100_000_000 + 18 * linear + square;
+        let parts = [own, 100_000_000 + 11 * linear, 100_000_000 - 3 * linear, 0];
+        return (parts, 500_000_000 + 34 * linear + square);
+    }
+    let one = 1_000_000_000_000;
+    let (linear, square, cube) = (100_000_000 * k, 10_000 * k * k, 26 * k * k * k);
+    let own = one + 72 * linear + 131 * square + cube;
+    let (next, second) = (one + 57 * linear + 46 * square, one + 23 * linear - 18 * square);
+    let third = one + 3 * square - 18 * linear;
+    ([own, next, second, third], 7 * one + 196 * linear + 193 * square + cube)
 }
 
 /// β in ten-thousandths, over the stringers that both wheels' shares reach.
-fn beta(m: &Member, track: u16) -> u64 {
-    let (parts, divisor) = shares(stiffness_number(m));
-    let (d, r) = (u64::from(m.d), u64::from(track % m.d));
-    // Places are counted from two left of the first wheel, so that none is below 0.
-    let (first, second) = (2, 2 + usize::from(track / m.d));
+///
+/// No track is below a spacing, so no stringer carries more than the two greatest shares. Over seven
+/// stringers these are below 9.63 × 10¹²: times a spacing of 100 and ten thousand, 9.63 × 10¹⁸ is
+/// within 64 bits.
+fn beta(k: u64, spacing: u16, track: u16) -> u64 {
+    let (parts, divisor) = shares(k);
+    let (d, r) = (u64::from(spacing), u64::from(track % spacing));
+    let reach = if parts[3] == 0 { 2 } else { 3 };
+    // Places are counted from the first that is reached, so that none is below 0.
+    let (first, second) = (reach, reach + usize::from(track / spacing));
     let part = |place: usize, wheel: usize| parts.get(place.abs_diff(wheel)).copied().unwrap_or(0);
     let influence = |j| d * part(j, first) + (d - r) * part(j, second) + r * part(j, second + 1);
-    let greatest = (0..=second + 3).map(influence).max().unwrap_or(0);
+    let greatest = (0..=second + 1 + reach).map(influence).max().unwrap_or(0);
     (10_000 * greatest).div_ceil(divisor * d)
 }
 
@@ -121,7 +134,8 @@ fn permitted_load(m: &Member, vehicle: &Vehicle) -> u64 {
     }
     if m.kind == CLOSE_STRINGER {
         let net = (10_240 * modulus_in_thirtieths(m) * k).saturating_sub(24 * q * l * l);
-        return scaled(net, 10_000, n * beta(m, vehicle.track) * l * l);
+        let beta = beta(stiffness_number(m), m.d, vehicle.track);
+        return scaled(net, 10_000, n * beta * l * l);
     }
     let (a, b) = if m.kind == 3 { (1, 1) } else { (m.a.into(), m.b.into()) };
     let front = match m.kind {
@@ -196,4 +210,34 @@ pub fn judge(survey: &[u8], vehicle: &[u8]) -> Result<Judged, Refused> {
     let vehicle = reader::vehicle(vehicle)?;
     let behind = offsets(&vehicle.axles);
     Ok(bridge(members.iter().map(|member| rate_with(member, &vehicle, &behind)).collect()))
+}
+
+#[cfg(test)]
+mod tests {
+    use super::*;
+    use crate::spread;
+
+    /// The wheels at every distance: β is that of 128 bits.
+    fn agrees(k: u64, spacing: u16) {
+        for track in 100..=300 {
+            let (fast, exact) = (beta(k, spacing, track), spread::beta(k.into(), spacing, track));
+            assert_eq!(i128::from(fast), exact, "k {k}, spacing {spacing}, track {track}");
+        }
+    }
+
+    /// The greatest numbers are those of k = 549 with a spacing of 100.
+    #[test]
+    fn beta_of_seven_stringers_fits_64_bits() {
+        for k in 0..550 {
+            [30, 61, 99, 100].into_iter().for_each(|spacing| agrees(k, spacing));
+        }
+    }
+
+    /// On both sides of 0.055 and of 1/3, and at the ends.
+    #[test]
+    fn beta_at_every_spacing() {
+        for k in [0, 1, 548, 549, 550, 551, 3333, 3334, 99_999, 100_000] {
+            (30..=100).for_each(|spacing| agrees(k, spacing));
+        }
+    }
 }
