@@ -72,6 +72,37 @@ fn five_stringers_by_hand() {
     assert_eq!(permitted_load(&member, &vehicle(1, 100)), 12_113);
 }
 
+/// The same with four boards of 10 thick: J = 4 × 50 × 10³ / 12, k = 0.05. The shares are 4.93075,
+/// 3.965, 2.105, 0.1075 over 17.28575. E = 100 = 2 × 50: the stringer between the wheels has 7.93 /
+/// 17.28575 = 0.45876, those under them 7.03575 / 17.28575: β = 0.4588. E = 190 = 3 × 50 + 40: under
+/// the first wheel 4.93075 and 10/50 of the third share, 4.95225 / 17.28575 = 0.28649; without the
+/// third it would be 0.28525. (3072 × 2000/3 × 1.3 − 2.4 × 0.2 × 40,000) / (1.1 × β × 40,000) =
+/// 130.93447 and 209.6779.
+#[test]
+fn seven_stringers_by_hand() {
+    let deck = Member { x: 4, h: 10, a: 50, b: 0, ..SAWN };
+    let member = Member { species: 6, l: 200, q: 20, s: [10, 20, 0, 0, 1, 0], ..deck };
+    assert_eq!(stiffness_number(&member), 500);
+    assert_eq!([100, 190].map(|track| beta(&member, track)), [4588, 2865]);
+    let loads = [100, 190].map(|track| permitted_load(&member, &vehicle(1, track)));
+    assert_eq!(loads, [13_093, 20_967]);
+}
+
+/// l = 200, d = 70: 8d³ / l³ = 0.343. Two tiers of log 20 have I = 2 × 785 × 10 = 15,700, three
+/// boards 49 wide and 20 thick J = 98,000: k = 0.05495, kept as 0.0550, so five share. With rot 1 in
+/// the top log, net 18, I = 573 × 9 + 7850 = 13,007: k = 0.0455, and seven share.
+#[test]
+fn a_half_at_the_border() {
+    let of = |rot| {
+        let (s, deck) = ([20, rot, 2, 0, 0, 0], Member { x: 3, h: 20, a: 49, b: 0, ..SAWN });
+        Member { l: 200, d: 70, code: 1, s, ..deck }
+    };
+    assert_eq!([0, 1].map(|rot| stiffness_number(&of(rot))), [550, 455]);
+    // E = 140 = 2 × 70, the stringer between the wheels: 3.21 / 6.891175 = 0.46581, and twice
+    // 3.6887315 / 16.3200074 = 0.45205.
+    assert_eq!([0, 1].map(|rot| beta(&of(rot), 140)), [4659, 4521]);
+}
+
 /// The top log has net diameter 17: W = 482, I = 482 × 17 / 2 = 4097. Two sound ones have W = 2925,
 /// I = 2925 × 31 / 2 = 45,337.5 each: W = 6332, I = 94,772. J = 3 × 44 × 6³ / 12 = 2376 with deck
 /// rot 9, 1375 with 10: k = 0.2190 and 0.3784. More deck rot gives a higher load here: the shares
@@ -121,8 +152,8 @@ fn nothing_left() {
     }
     let rotten = Member { s: [12, 20, 0, 20, 1, 0], ..SAWN };
     assert_eq!((stiffness_number(&rotten), permitted_load(&rotten, &vehicle(0, 190))), (0, 0));
-    // k = 0: five stringers bear a fifth each.
-    assert_eq!(beta(&rotten, 190), 4000);
+    // k = 0: seven stringers bear a seventh each, and some bear one of both wheels.
+    assert_eq!(beta(&rotten, 190), 2858);
 }
 
 /// One log 13 over a span of 100, d = 30: I = 1404, 8d³ = 216,000, l³ = 10⁶. A board 8 wide with 4
@@ -143,12 +174,12 @@ fn halves_are_rounded_up() {
 /// spacing.
 #[test]
 fn the_most_loaded_stringer() {
-    // k = 1: 3/5 and 1/5. k = 0.1: 2.87, 2.1, 0.7 over 8.47. k = 0: five fifths.
     let of = |j: [u16; 3], d, track| {
         let [s1, a, b] = j;
         beta(&Member { d, l: 20 * d, s: [s1, 20, 0, 0, 1, 0], a, b, ..SAWN }, track)
     };
     let (stiff, even, soft) = ([12, 12, 3], [12, 60, 3], [12, 60, 0]);
+    // k = 1: 3/5 and 1/5.
     assert_eq!(of(stiff, 100, 100), 8000, "neighbours, 3/5 + 1/5");
     assert_eq!(of(stiff, 100, 150), 7000, "3/5 + half of 1/5");
     assert_eq!(of(stiff, 100, 200), 6000, "two places apart, between them 1/5 + 1/5");
@@ -158,10 +189,30 @@ fn the_most_loaded_stringer() {
     assert_eq!(of(even, 100, 200), 5299, "between the wheels, twice 3.2 over 12.08");
     assert_eq!(of(even, 100, 250), 4206, "under the first wheel, 4.88 + half of 0.4 over 12.08");
     assert_eq!(of(even, 75, 300), 4040, "four places apart, none of the other wheel");
-    // k = 0.0128: 1.23154688, 1.1408, 0.9616 over 5.43634688.
-    assert_eq!(of(soft, 100, 100), 4364, "1.2315 + 1.1408 over 5.4363");
-    assert_eq!(of(soft, 100, 300), 3868, "1.1408 + 0.9616 over 5.4363");
-    assert_eq!(of(soft, 60, 300), 2266, "five places apart");
+    // k = 0.0128: 1.943118, 1.737137, 1.291451, 0.770092 over 9.540476.
+    assert_eq!(of(soft, 100, 100), 3858, "1.943118 + 1.737137 over 9.540476");
+    assert_eq!(of(soft, 100, 300), 3175, "1.737137 + 1.291451 over 9.540476");
+    assert_eq!(of(soft, 75, 300), 2708, "in the middle, twice 1.291451 over 9.540476");
+    assert_eq!(of(soft, 60, 300), 2161, "1.291451 + 0.770092 over 9.540476");
+    assert_eq!(of(soft, 50, 300), 2037, "1.943118 over 9.540476; in the middle twice 0.770092");
+}
+
+/// k = 0, a seventh each: up to six places apart some stringer has a seventh of both wheels.
+#[test]
+fn wheels_far_apart_over_even_shares() {
+    for (spacing, track, beta, what) in [
+        (100, 100, 2858, "m 1: 2/7"),
+        (60, 300, 2858, "m 5: 2/7"),
+        (50, 300, 2858, "m 6: 2/7, third of both"),
+        (30, 180, 2858, "m 6: the same"),
+        (49, 300, 2683, "m 6, r 6: 1/7 + 43/49 of 1/7"),
+        (45, 300, 1905, "m 6, r 30: 1/7 + a third of 1/7"),
+        (43, 300, 1462, "m 6, r 42: 1/7 + 1/43 of 1/7"),
+        (30, 210, 1429, "m 7: none has a share of both"),
+        (30, 300, 1429, "m 10: the same"),
+    ] {
+        assert_eq!(spread::beta(0, spacing, track), beta, "{what}");
+    }
 }
 
 fn is_close(words: &Words) -> bool {
@@ -174,7 +225,8 @@ fn marks(words: &Words) -> Vec<&'static str> {
     let k = stiffness_number(&member);
     let net = i32::from(words[BOARD_THICKNESS]) - i32::from(words[DECK_ROT]);
     let marks = [
-        ("k below 1/3", 3 * k < 10_000),
+        ("k below 0.055", k < 550),
+        ("k from 0.055 to 1/3", k >= 550 && 3 * k < 10_000),
         ("k from 1/3 up", 3 * k >= 10_000 && k < GREATEST_K),
         ("the greatest k", net > 0 && k == GREATEST_K),
         ("boards just gone", net == 0),
@@ -195,8 +247,22 @@ fn the_generator_meets_every_spread() {
                 *met.entry((words[SECTION], mark)).or_default() += 1;
             }
         }
-        assert!(met.len() == 14 && met.values().all(|&times| times > 5), "{met:?}");
+        assert!(met.len() == 16 && met.values().all(|&times| times > 5), "{met:?}");
     }
+}
+
+/// Both sides of 0.055 are met often, and the two numbers next to it too.
+#[test]
+fn the_generator_meets_the_border() {
+    let mut random = Random::new(SEED);
+    let mut met: BTreeMap<i128, u32> = BTreeMap::new();
+    for words in (0..4000).filter_map(|_| at_seven_stringers(&mut random)) {
+        let members = reader::survey(&survey_bytes(&[words])).expect("a sound survey");
+        *met.entry(stiffness_number(&members[0])).or_default() += 1;
+    }
+    let [seven, five] = [met.range(540..550), met.range(550..560)]
+        .map(|side| side.map(|(_, times)| times).sum::<u32>());
+    assert!(seven > 1000 && five > 1000 && met[&549] > 300 && met[&550] > 300, "{met:?}");
 }
 
 /// Any wear: rot of the stringer and of its deck grows. The same spread: its dead load alone.

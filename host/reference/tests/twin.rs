@@ -42,20 +42,22 @@ fn the_twin_agrees_on_every_crescent() {
     }
 }
 
-/// A closely spaced log stringer over boards 20 wide of this thickness.
-fn close_stringer(spacing: u16, thickness: u16) -> Words {
+/// A closely spaced log stringer over boards: their count, thickness and width.
+fn close_stringer(spacing: u16, [boards, thickness, width]: [u16; 3]) -> Words {
     let mut words: Words = [0; 16];
     [words[KIND], words[SPECIES], words[SPAN], words[SPACING]] = [7, 1, 300, spacing];
     [words[SECTION], words[S1], words[S3]] = [1, 28, 1];
-    [words[BOARDS], words[BOARD_THICKNESS], words[BOARD_WIDTH]] = [2, thickness, 20];
+    [words[BOARDS], words[BOARD_THICKNESS], words[BOARD_WIDTH]] = [boards, thickness, width];
     words
 }
 
-/// Wheels at every distance over stringers at every spacing, on thin, usual and thick boards.
+/// Wheels at every distance over stringers at every spacing, on thin, usual and thick boards, and on
+/// so many that seven stringers share at any spacing.
 #[test]
 fn the_twin_agrees_on_every_track_and_spacing() {
-    let members: Vec<Words> =
-        [4, 9, 20].iter().flat_map(|&h| (30..=100).map(move |d| close_stringer(d, h))).collect();
+    let decks = [[2, 4, 20], [2, 9, 20], [2, 20, 20], [10, 20, 60]];
+    let on = |deck| (30..=100).map(move |spacing| close_stringer(spacing, deck));
+    let members: Vec<Words> = decks.into_iter().flat_map(on).collect();
     for track in 100..=300 {
         let vehicle = vehicle_bytes(&VehicleWords { class: 0, track, axles: vec![[1, 0]] });
         for members in members.chunks(64) {
@@ -67,6 +69,20 @@ fn the_twin_agrees_on_every_track_and_spacing() {
     }
 }
 
+/// Spans on both sides of k = 0.055.
+#[test]
+fn the_twin_agrees_where_seven_stringers_begin() {
+    const SEED: u64 = 0x771a;
+    let mut random = Random::new(SEED);
+    for round in 0..4000 {
+        let Some(words) = at_seven_stringers(&mut random) else { continue };
+        let survey = survey_bytes(&[words]);
+        let vehicle = vehicle_bytes(&vehicle(&mut random, Spread::Usual, 1));
+        let (fast, slow) = (twin::judge(&survey, &vehicle), judge(&survey, &vehicle));
+        assert_eq!(fast, slow, "seed {SEED:#x}, round {round}");
+    }
+}
+
 /// k at a half of a ten-thousandth: 301.5, 724.5 and 3392.5, each of which β shows.
 #[test]
 fn the_twin_rounds_half_up() {
@@ -74,9 +90,8 @@ fn the_twin_rounds_half_up() {
     for (diameter, span, spacing, boards, thickness, width) in
         [(16, 200, 60, 4, 12, 40), (27, 200, 30, 4, 9, 40), (24, 100, 30, 4, 12, 18)]
     {
-        let mut words = close_stringer(spacing, thickness);
+        let mut words = close_stringer(spacing, [boards, thickness, width]);
         [words[SPAN], words[S1]] = [span, diameter];
-        [words[BOARDS], words[BOARD_WIDTH]] = [boards, width];
         let survey = survey_bytes(&[words]);
         let (fast, slow) = (twin::judge(&survey, &vehicle), judge(&survey, &vehicle));
         assert!(slow.is_ok(), "diameter {diameter}: {slow:?}");

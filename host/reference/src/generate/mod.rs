@@ -1,6 +1,7 @@
 //! A deterministic generator of files: the same seed gives the same files on every machine.
 
 mod between;
+mod border;
 mod brink;
 mod corners;
 mod damage;
@@ -17,6 +18,7 @@ pub use between::{
     bearing_survey, damaged_pairs, some_entries, some_pair_damage, survey_between, vehicle_near,
     worn, DamagedPair,
 };
+pub use border::at_seven_stringers;
 pub use brink::at_the_limit;
 pub use corners::corners;
 pub use damage::{any_bytes, some_damage};
