@@ -1,5 +1,5 @@
-//! Closely spaced stringers: the stiffness number at its edges, the spread over three and over five
-//! stringers, wheels near and far apart, and the refusals that the ranges alone do not bring.
+//! Closely spaced stringers: the stiffness number at its edges, the spread over three, five and
+//! seven stringers, wheels near and far apart, and the refusals that the ranges alone do not bring.
 
 use crate::records::*;
 use crate::survey_faults::Turn;
@@ -57,6 +57,45 @@ fn stiffness() -> Vec<Words> {
     ]
 }
 
+/// k in ten-thousandths on both sides of 550, below which seven stringers share, and at 0.
+fn seven_stringers() -> Vec<Words> {
+    vec![
+        // 548.4996 and 548.5003: 548 and 549 are kept.
+        logs([22, 0, 3], [500, 90], [1, 20, 44, 0]),
+        logs([23, 0, 1], [220, 50], [9, 9, 43, 0]),
+        // 549.4989, 549.5 and 549.5001: 549, and twice 550.
+        logs([20, 0, 2], [300, 60], [7, 9, 43, 0]),
+        logs([20, 0, 2], [400, 70], [3, 10, 49, 0]),
+        logs([19, 0, 1], [490, 90], [1, 11, 52, 0]),
+        // 550 with sound boards, and with as much left of thicker ones.
+        sawn([11, 30, 0, 0], [200, 50], [4, 15, 50, 0]),
+        sawn([11, 30, 0, 0], [200, 50], [4, 19, 50, 4]),
+        // 0.5 and 0.49: 1 and 0 are kept.
+        sawn([50, 60, 0, 0], [3000, 30], [4, 20, 54, 0]),
+        sawn([50, 60, 0, 0], [3000, 30], [4, 20, 55, 0]),
+    ]
+}
+
+/// k = 0.0025, 0.025 and 0.0525 at spacings that put the wheels one to ten stringers apart, over a
+/// stringer and between two.
+fn over_seven() -> Vec<Words> {
+    let of = |pieces| {
+        [30, 37, 50, 60, 75, 100].map(|spacing| {
+            let piece = sawn([12, 20, 0, 0], [4 * spacing, spacing], [10, 20, 60, 0]);
+            with(piece, &[(S5, pieces)])
+        })
+    };
+    [1, 10, 21].into_iter().flat_map(of).collect()
+}
+
+/// The deck's rot alone grows, from seven stringers over five to three; then the stringer's, from
+/// five to seven.
+fn from_seven_to_three() -> Vec<Words> {
+    let log = |rot, deck_rot| logs([28, rot, 1], [500, 60], [6, 10, 30, deck_rot]);
+    let deck = (0..=6).map(|deck_rot| log(0, deck_rot));
+    deck.chain((1..=3).map(|rot| log(rot, 3))).collect()
+}
+
 /// Nothing left of the boards, of the stringer, of both; a little of the boards; A below B.
 fn nothing_left() -> Vec<Words> {
     let log = |rot, deck| logs([28, rot, 1], [300, 60], deck);
@@ -74,8 +113,8 @@ fn nothing_left() -> Vec<Words> {
     ]
 }
 
-/// Logs in tiers and sawn pieces, sound and decayed, on boards that spread over five stringers and
-/// over three, at the least, a usual and the greatest spacing.
+/// Logs in tiers and sawn pieces, sound and decayed, on boards that spread over seven stringers, over
+/// five and over three, at the least, a usual and the greatest spacing.
 fn sections() -> Vec<Words> {
     let on = |spacing, deck| {
         let logs = [1, 2, 3].map(|tiers| logs([26, 3, tiers], [400, spacing], deck));
@@ -86,11 +125,15 @@ fn sections() -> Vec<Words> {
 }
 
 fn figures(script: &mut Script) {
+    let tracks = [100, 150, 210, 225, 299, 300];
     let surveys = [
         ("deck rot 9 and 10", deck_rot(), vec![(0, 190)]),
         ("the stiffness number", stiffness(), vec![(0, 190), (1, 130)]),
         ("nothing left", nothing_left(), vec![(0, 100)]),
         ("sections and spacings", sections(), vec![(0, 100), (1, 213), (1, 300)]),
+        ("seven of them below 0.055", seven_stringers(), vec![(0, 190), (1, 300)]),
+        ("wheels over seven of them", over_seven(), tracks.map(|track| (0, track)).into()),
+        ("rot that changes the spread", from_seven_to_three(), vec![(0, 190)]),
     ];
     script.start();
     for (title, members, vehicles) in surveys {
