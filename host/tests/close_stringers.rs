@@ -1,11 +1,11 @@
 //! Closely spaced stringers, kind 7, through the exported library: formula (10) by hand, the
-//! stiffness number at its edges, the spread over three and five stringers, wheels near and far
-//! apart, and every refusal.
+//! stiffness number at its edges, the spread over three, five and seven stringers, wheels near and
+//! far apart, and every refusal.
 
 mod common;
 
-use common::{expected, library};
-use reference::generate::{survey_bytes, vehicle_bytes, VehicleWords};
+use common::{expected, library, seed};
+use reference::generate::{at_seven_stringers, survey_bytes, vehicle_bytes, Random, VehicleWords};
 use reference::layout::*;
 
 /// Count, thickness and width of the boards, and their rot.
@@ -89,6 +89,20 @@ fn five_stringers_by_hand() {
     assert_eq!(permitted(&[with(words, &[(SPECIES, 6), (DEAD_LOAD, 20)])], 1, 100), [12_113]);
 }
 
+/// The same piece on four boards of 10 thick: J = 4 × 50 × 10³ / 12, so k = 0.05. The shares are
+/// 4.93075, 3.965, 2.105, 0.1075 over 17.28575. E = 100: the stringer between the wheels has 7.93 /
+/// 17.28575 = 0.458760, β = 0.4588; (3072 × 2000/3 × 1.3 − 2.4 × 0.2 × 200²) / (1.1 × 0.4588 × 200²)
+/// × 100 = 13,093.4. By five stringers it would be 13,016. E = 190 = 3 × 50 + 40: under the first
+/// wheel 4.93075 and a fifth of 0.1075, the third neighbour's: β = 0.2865, 20,967.8; without it
+/// 21,056.
+#[test]
+fn seven_stringers_by_hand() {
+    let words = of_piece(close_stringer(200, 50, [4, 10, 50, 0]), [10, 20]);
+    let oak = with(words, &[(SPECIES, 6), (DEAD_LOAD, 20)]);
+    assert_eq!(permitted(&[oak], 1, 100), [13_093]);
+    assert_eq!(permitted(&[oak], 1, 190), [20_967]);
+}
+
 /// Three tiers of log 31, the top one with rot 7: net 17, W = 482 + 2 × 2925 = 6332 and I = 482 ×
 /// 8.5 + 2 × 2925 × 15.5 = 94,772. Three boards 44 wide and 15 thick: J = 2376 with rot 9, 1375
 /// with rot 10. l = 1009, d = 89: k = 0.2190 and 0.3784. E = 190 = 2 × 89 + 12: the most is on the
@@ -105,12 +119,59 @@ fn tiers_by_hand() {
 /// k in ten-thousandths and what it makes of β, for a sound log.
 #[test]
 fn the_stiffness_number_is_rounded_half_up() {
-    // 301.5 is 302, with 0.3599; 301 would have 0.3600.
+    // 301.5 is 302, with 0.3254; 301 would have 0.3253.
     let low = of_logs(close_stringer(200, 60, [4, 12, 40, 0]), [16, 0, 1]);
-    assert_eq!(permitted(&[low], 0, 190), [formula_10(402, 3599, 200)]);
+    assert_eq!(permitted(&[low], 0, 190), [formula_10(402, 3254, 200)]);
+    // 724.5 is 725, with 0.3122; 724 would have 0.3121.
+    let middle = of_logs(close_stringer(200, 30, [4, 9, 40, 0]), [27, 0, 1]);
+    assert_eq!(permitted(&[middle], 0, 190), [formula_10(1932, 3122, 200)]);
     // 3392.5 is 3393, with 0.4564; 3392 would have 0.4563.
     let high = of_logs(close_stringer(100, 30, [4, 12, 18, 0]), [24, 0, 1]);
     assert_eq!(permitted(&[high], 0, 190), [formula_10(1357, 4564, 100)]);
+}
+
+/// Two tiers of log 20 have W = 1570, I = 15,700. l = 300, d = 60, seven boards 43 wide and 9 thick:
+/// k = 0.064 × 15,700 / 18,285.75 = 0.05494989, kept as 0.0549. E = 190 = 3 × 60 + 10, the most is on
+/// the second stringer: 2.20844782 + (50 × 4.26794446 + 10 × 2.20844782) / 60 = 6.13314284 over
+/// 18.34640613, β = 0.3343; by five stringers it would be 0.3356. l = 200, d = 70, three boards 49
+/// wide and 20 thick: k = 0.343 × 15,700 / 98,000 = 0.05495, kept as 0.0550. E = 190 = 2 × 70 + 50,
+/// the most is between the wheels: 1.605 + (20 × 1.605 + 50 × 0.835) / 70 = 2.66 over 6.891175, β =
+/// 0.3861; by seven stringers, of 0.0549, it would be 0.3851.
+#[test]
+fn seven_stringers_share_below_0_055() {
+    let below = of_logs(close_stringer(300, 60, [7, 9, 43, 0]), [20, 0, 2]);
+    assert_eq!(permitted(&[below], 0, 190), [formula_10(1570, 3343, 300)]);
+    let above = of_logs(close_stringer(200, 70, [3, 20, 49, 0]), [20, 0, 2]);
+    assert_eq!(permitted(&[above], 0, 190), [formula_10(1570, 3861, 200)]);
+}
+
+/// A piece 11 by 30 has W = 1650, I = 24,750; l = 200, d = 50, four boards 50 wide and 15 thick: k =
+/// 1/8 × 24,750 / 56,250 = 0.055. E = 190 = 3 × 50 + 40: under a wheel 2.011175 / 6.891175, β =
+/// 0.2919; by seven stringers it would be 0.2921, with a fifth of the third neighbour's.
+#[test]
+fn five_stringers_share_at_0_055() {
+    let words = of_piece(close_stringer(200, 50, [4, 15, 50, 0]), [11, 30]);
+    assert_eq!(permitted(&[words], 0, 190), [formula_10(1650, 2919, 200)]);
+}
+
+/// A sound log 28 has I = 30,170; l = 500, d = 60, six boards 30 wide: k is 0.0543 with 8 cm left of
+/// 10, 0.0811 with 7. E = 180 = 3 × 60, a stringer between the wheels is the first neighbour of one
+/// and the second of the other: 4.23073054 + 2.19582718 over 18.21602125, then 1.8921 + 0.7567 over
+/// 7.80344047.
+#[test]
+fn deck_rot_takes_two_stringers_away() {
+    let of = |rot| of_logs(close_stringer(500, 60, [6, 10, 30, rot]), [28, 0, 1]);
+    let loads = [3528, 3395].map(|beta| formula_10(2155, beta, 500));
+    assert_eq!(permitted(&[of(2), of(3)], 0, 180), loads);
+}
+
+/// 0.49 ten-thousandths are kept as 0, and seven stringers bear a seventh each: E = 180 = 6 × 30, the stringer in
+/// the middle is the third of both wheels. 0.5 are kept as 1: twice 0.99820003 over 7.01960193.
+#[test]
+fn a_seventh_each() {
+    let of = |width| of_piece(close_stringer(3000, 30, [4, 20, width, 0]), [50, 60]);
+    let loads = [2858, 2845].map(|beta| formula_10(30_000, beta, 3000));
+    assert_eq!(permitted(&[of(55), of(54)], 0, 180), loads);
 }
 
 /// 3333.46 is kept as 3333, below 1/3: by three stringers it would have β = 0.5001. 3333.6 is kept
@@ -142,14 +203,17 @@ fn the_greatest_stiffness_number() {
     assert_eq!(permitted(&gone, 0, 190), [0, 0]);
 }
 
-/// Ten pieces 12 by 20 with W = 8000 and I = 80,000 over ten boards 20 thick, l = 2 d: k is 80,000
-/// over J. Boards 12 wide have J = 80,000, so k is 1 and the shares 3/5 and 1/5; boards 60 wide
-/// have J = 400,000, so k is 0.2 and the shares 4.88, 3.2, 0.4 over 12.08. With d = 30, where l =
-/// 60 is too short, l = 4 d and the boards are 10 thick.
+/// Pieces 12 by 20 have W = 800 and I = 8000 each; the boards are ten, 20 thick. Over l = 2 d, k is
+/// I / J. Ten pieces on boards 12 wide have J = 80,000, so k is 1 and the shares 3/5 and 1/5. Boards
+/// 60 wide have J = 400,000: with ten pieces k is 0.2, and the shares are 4.88, 3.2, 0.4 over 12.08;
+/// with one it is 0.02, and they are 2.492608, 2.1584, 1.4528, 0.6412 over 10.997408. Over l = 4 d it
+/// is 0.0025: 1.180819, 1.142788, 1.057388, 0.955019 over 7.491207. Where l is too short, it is twice
+/// as long and the boards are 10 thick.
 #[test]
 fn wheels_near_and_far_apart() {
-    let (three, five) = (12, 60);
-    for (width, spacing, track, beta, what) in [
+    // Pieces, width of the boards, and spacings in the span.
+    let (three, five, seven, even) = ([10, 12, 2], [10, 60, 2], [1, 60, 2], [1, 60, 4]);
+    for ([pieces, width, spacings], spacing, track, beta, what) in [
         (three, 100, 100, 8000, "m 1: neighbours, 3/5 + 1/5"),
         (three, 100, 150, 7000, "m 1, r 50: 3/5 + half of 1/5"),
         (three, 100, 200, 6000, "m 2: 3/5; between the wheels 1/5 + 1/5"),
@@ -162,23 +226,47 @@ fn wheels_near_and_far_apart() {
         (five, 75, 300, 4040, "m 4: 4.88; in the middle 0.4 + 0.4"),
         (five, 60, 300, 4040, "m 5: no stringer in common"),
         (five, 30, 299, 4040, "m 9, r 29: no stringer in common"),
+        (seven, 100, 100, 4230, "m 1: 2.492608 + 2.1584"),
+        (seven, 100, 200, 3926, "m 2: between the wheels 2.1584 + 2.1584"),
+        (seven, 100, 300, 3284, "m 3: between the wheels 2.1584 + 1.4528"),
+        (seven, 60, 255, 2458, "m 4, r 15: in the middle 1.75 × 1.4528 + 0.25 × 0.6412"),
+        (seven, 60, 300, 2267, "m 5: 2.492608; in the middle 1.4528 + 0.6412"),
+        (even, 100, 300, 2938, "m 3: between the wheels 1.142788 + 1.057388"),
+        (even, 75, 300, 2824, "m 4: in the middle 1.057388 + 1.057388"),
+        (even, 60, 300, 2687, "m 5: in the middle 1.057388 + 0.955019"),
+        (even, 50, 300, 2550, "m 6: in the middle 0.955019 + 0.955019"),
+        (even, 45, 300, 1700, "m 6, r 30: 0.955019 + a third of 0.955019"),
+        (even, 40, 300, 1577, "m 7, r 20: 1.180819; no stringer in common"),
+        (even, 30, 300, 1577, "m 10: no stringer in common"),
     ] {
-        let (span, thickness) = if spacing == 30 { (120, 10) } else { (2 * spacing, 20) };
+        let span = spacings * spacing;
+        let (span, thickness) = if span < 100 { (2 * span, 10) } else { (span, 20) };
         let piece = of_piece(close_stringer(span, spacing, [10, thickness, width, 0]), [12, 20]);
-        let loads = [beta, beta + 1].map(|beta| formula_10(8000, beta, span.into()));
+        let modulus = 800 * u64::from(pieces);
+        let loads = [beta, beta + 1].map(|beta| formula_10(modulus, beta, span.into()));
         assert!(loads[0] > loads[1], "the load shows a ten-thousandth");
-        assert_eq!(permitted(&[with(piece, &[(S5, 10)])], 0, track), [loads[0]], "{what}");
+        assert_eq!(permitted(&[with(piece, &[(S5, pieces)])], 0, track), [loads[0]], "{what}");
     }
 }
 
+/// On thin, usual and thick boards, and on so many that seven stringers share at any spacing.
 #[test]
 fn every_track_and_spacing() {
-    let of = |thickness, spacing| {
-        of_logs(close_stringer(300, spacing, [2, thickness, 20, 0]), [28, 1, 2])
-    };
-    let members: Vec<Words> =
-        [4, 9, 20].iter().flat_map(|&h| (30..=100).map(move |d| of(h, d))).collect();
+    let decks = [[2, 4, 20, 0], [2, 9, 20, 0], [2, 20, 20, 0], [10, 20, 60, 0]];
+    let on = |deck| (30..=100).map(move |d| of_logs(close_stringer(300, d, deck), [28, 1, 2]));
+    let members: Vec<Words> = decks.into_iter().flat_map(on).collect();
     (100..=300).for_each(|track| agree(&members, u8::from(track % 2 == 0), track));
+}
+
+/// Spans on both sides of k = 0.055.
+#[test]
+fn where_seven_stringers_begin() {
+    let mut random = Random::new(seed(0x7b2_0007));
+    let members: Vec<Words> = (0..20_000).filter_map(|_| at_seven_stringers(&mut random)).collect();
+    assert!(members.len() > 10_000, "{} at the border", members.len());
+    for members in members.chunks(64) {
+        agree(members, 0, random.between(100, 300));
+    }
 }
 
 #[test]
