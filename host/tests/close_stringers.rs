@@ -91,10 +91,10 @@ fn five_stringers_by_hand() {
 
 /// The same piece on four boards of 10 thick: J = 4 × 50 × 10³ / 12, so k = 0.05. The shares are
 /// 4.93075, 3.965, 2.105, 0.1075 over 17.28575. E = 100: the stringer between the wheels has 7.93 /
-/// 17.28575 = 0.458760, β = 0.4588; (3072 × 2000/3 × 1.3 − 2.4 × 0.2 × 200²) / (1.1 × 0.4588 × 200²)
-/// × 100 = 13,093.4. By five stringers it would be 13,016. E = 190 = 3 × 50 + 40: under the first
-/// wheel 4.93075 and a fifth of 0.1075, the third neighbour's: β = 0.2865, 20,967.8; without it
-/// 21,056.
+/// 17.28575 = 0.458760, β = 0.4588; (3072 × 2000/3 × 1.3 − 2.4 × 0.2 × 200²) / (1.1 × 0.4588 ×
+/// 200²) × 100 = 13,093.4. By five stringers it would be 13,016. E = 190 = 3 × 50 + 40: under the
+/// first wheel 4.93075 and a fifth of 0.1075, the third neighbour's: β = 0.2865, 20,967.8; without
+/// it 21,056.
 #[test]
 fn seven_stringers_by_hand() {
     let words = of_piece(close_stringer(200, 50, [4, 10, 50, 0]), [10, 20]);
@@ -130,23 +130,23 @@ fn the_stiffness_number_is_rounded_half_up() {
     assert_eq!(permitted(&[high], 0, 190), [formula_10(1357, 4564, 100)]);
 }
 
-/// Two tiers of log 20 have W = 1570, I = 15,700. l = 300, d = 60, seven boards 43 wide and 9 thick:
-/// k = 0.064 × 15,700 / 18,285.75 = 0.05494989, kept as 0.0549. E = 190 = 3 × 60 + 10, the most is on
-/// the second stringer: 2.20844782 + (50 × 4.26794446 + 10 × 2.20844782) / 60 = 6.13314284 over
-/// 18.34640613, β = 0.3343; by five stringers it would be 0.3356. l = 200, d = 70, three boards 49
-/// wide and 20 thick: k = 0.343 × 15,700 / 98,000 = 0.05495, kept as 0.0550. E = 190 = 2 × 70 + 50,
-/// the most is between the wheels: 1.605 + (20 × 1.605 + 50 × 0.835) / 70 = 2.66 over 6.891175, β =
-/// 0.3861; by seven stringers, of 0.0549, it would be 0.3851.
+/// Two tiers of log 20: W = 1570, I = 15,700. E = 190.
 #[test]
 fn seven_stringers_share_below_0_055() {
+    // l = 300, d = 60, J = 18,285.75: k = 0.064 I / J = 0.05494989, kept as 0.0549. The second from
+    // the first wheel has 2.20844782 + (50 × 4.26794446 + 10 × 2.20844782) / 60 = 6.13314284 over
+    // 18.34640613, β = 0.3343; by five stringers it would be 0.3356.
     let below = of_logs(close_stringer(300, 60, [7, 9, 43, 0]), [20, 0, 2]);
     assert_eq!(permitted(&[below], 0, 190), [formula_10(1570, 3343, 300)]);
+    // l = 200, d = 70, J = 98,000: k = 0.343 I / J = 0.05495, kept as 0.0550. The next to the first
+    // wheel has 1.605 + (20 × 1.605 + 50 × 0.835) / 70 = 2.66 over 6.891175, β = 0.3861; by seven
+    // stringers, with 0.0549, it would be 0.3851.
     let above = of_logs(close_stringer(200, 70, [3, 20, 49, 0]), [20, 0, 2]);
     assert_eq!(permitted(&[above], 0, 190), [formula_10(1570, 3861, 200)]);
 }
 
-/// A piece 11 by 30 has W = 1650, I = 24,750; l = 200, d = 50, four boards 50 wide and 15 thick: k =
-/// 1/8 × 24,750 / 56,250 = 0.055. E = 190 = 3 × 50 + 40: under a wheel 2.011175 / 6.891175, β =
+/// A piece 11 by 30 has W = 1650, I = 24,750; l = 200, d = 50, four boards 50 wide and 15 thick: k
+/// = 1/8 × 24,750 / 56,250 = 0.055. E = 190 = 3 × 50 + 40: under a wheel 2.011175 / 6.891175, β =
 /// 0.2919; by seven stringers it would be 0.2921, with a fifth of the third neighbour's.
 #[test]
 fn five_stringers_share_at_0_055() {
@@ -154,10 +154,10 @@ fn five_stringers_share_at_0_055() {
     assert_eq!(permitted(&[words], 0, 190), [formula_10(1650, 2919, 200)]);
 }
 
-/// A sound log 28 has I = 30,170; l = 500, d = 60, six boards 30 wide: k is 0.0543 with 8 cm left of
-/// 10, 0.0811 with 7. E = 180 = 3 × 60, a stringer between the wheels is the first neighbour of one
-/// and the second of the other: 4.23073054 + 2.19582718 over 18.21602125, then 1.8921 + 0.7567 over
-/// 7.80344047.
+/// A sound log 28 has I = 30,170; l = 500, d = 60, six boards 30 wide: k is 0.0543 with 8 cm left
+/// of 10, 0.0811 with 7. E = 180 = 3 × 60, a stringer between the wheels is the first neighbour of
+/// one and the second of the other: 4.23073054 + 2.19582718 over 18.21602125, then 1.8921 + 0.7567
+/// over 7.80344047.
 #[test]
 fn deck_rot_takes_two_stringers_away() {
     let of = |rot| of_logs(close_stringer(500, 60, [6, 10, 30, rot]), [28, 0, 1]);
@@ -165,8 +165,9 @@ fn deck_rot_takes_two_stringers_away() {
     assert_eq!(permitted(&[of(2), of(3)], 0, 180), loads);
 }
 
-/// 0.49 ten-thousandths are kept as 0, and seven stringers bear a seventh each: E = 180 = 6 × 30, the stringer in
-/// the middle is the third of both wheels. 0.5 are kept as 1: twice 0.99820003 over 7.01960193.
+/// 0.49 ten-thousandths are kept as 0, and seven stringers bear a seventh each: E = 180 = 6 × 30,
+/// the stringer in the middle is the third of both wheels. 0.5 are kept as 1: twice 0.99820003 over
+/// 7.01960193.
 #[test]
 fn a_seventh_each() {
     let of = |width| of_piece(close_stringer(3000, 30, [4, 20, width, 0]), [50, 60]);
@@ -204,11 +205,11 @@ fn the_greatest_stiffness_number() {
 }
 
 /// Pieces 12 by 20 have W = 800 and I = 8000 each; the boards are ten, 20 thick. Over l = 2 d, k is
-/// I / J. Ten pieces on boards 12 wide have J = 80,000, so k is 1 and the shares 3/5 and 1/5. Boards
-/// 60 wide have J = 400,000: with ten pieces k is 0.2, and the shares are 4.88, 3.2, 0.4 over 12.08;
-/// with one it is 0.02, and they are 2.492608, 2.1584, 1.4528, 0.6412 over 10.997408. Over l = 4 d it
-/// is 0.0025: 1.180819, 1.142788, 1.057388, 0.955019 over 7.491207. Where l is too short, it is twice
-/// as long and the boards are 10 thick.
+/// I / J. Ten pieces on boards 12 wide have J = 80,000, so k is 1 and the shares 3/5 and 1/5.
+/// Boards 60 wide have J = 400,000: with ten pieces k is 0.2, and the shares are 4.88, 3.2, 0.4
+/// over 12.08; with one it is 0.02, and they are 2.492608, 2.1584, 1.4528, 0.6412 over 10.997408.
+/// Over l = 4 d it is 0.0025: 1.180819, 1.142788, 1.057388, 0.955019 over 7.491207. Where l is too
+/// short, it is twice as long and the boards are 10 thick.
 #[test]
 fn wheels_near_and_far_apart() {
     // Pieces, width of the boards, and spacings in the span.

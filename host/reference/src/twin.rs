@@ -94,9 +94,9 @@ fn shares(k: u64) -> ([u64; 4], u64) {
 
 /// β in ten-thousandths, over the stringers that both wheels' shares reach.
 ///
-/// No track is below a spacing, so no stringer carries more than the two greatest shares. Over seven
-/// stringers these are below 9.63 × 10¹²: times a spacing of 100 and ten thousand, 9.63 × 10¹⁸ is
-/// within 64 bits.
+/// No track is below a spacing, so no stringer carries more than the two greatest shares. Over
+/// seven stringers these are below 9.63 × 10¹²: times a spacing of 100 and ten thousand, 9.63 ×
+/// 10¹⁸ is within 64 bits.
 fn beta(k: u64, spacing: u16, track: u16) -> u64 {
     let (parts, divisor) = shares(k);
     let (d, r) = (u64::from(spacing), u64::from(track % spacing));

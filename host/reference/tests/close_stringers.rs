@@ -74,10 +74,10 @@ fn five_stringers_by_hand() {
 
 /// The same with four boards of 10 thick: J = 4 × 50 × 10³ / 12, k = 0.05. The shares are 4.93075,
 /// 3.965, 2.105, 0.1075 over 17.28575. E = 100 = 2 × 50: the stringer between the wheels has 7.93 /
-/// 17.28575 = 0.45876, those under them 7.03575 / 17.28575: β = 0.4588. E = 190 = 3 × 50 + 40: under
-/// the first wheel 4.93075 and 10/50 of the third share, 4.95225 / 17.28575 = 0.28649; without the
-/// third it would be 0.28525. (3072 × 2000/3 × 1.3 − 2.4 × 0.2 × 40,000) / (1.1 × β × 40,000) =
-/// 130.93447 and 209.6779.
+/// 17.28575 = 0.45876, those under them 7.03575 / 17.28575: β = 0.4588. E = 190 = 3 × 50 + 40:
+/// under the first wheel 4.93075 and 10/50 of the third share, 4.95225 / 17.28575 = 0.28649;
+/// without the third it would be 0.28525. (3072 × 2000/3 × 1.3 − 2.4 × 0.2 × 40,000) / (1.1 × β ×
+/// 40,000) = 130.93447 and 209.6779.
 #[test]
 fn seven_stringers_by_hand() {
     let deck = Member { x: 4, h: 10, a: 50, b: 0, ..SAWN };
@@ -89,8 +89,8 @@ fn seven_stringers_by_hand() {
 }
 
 /// l = 200, d = 70: 8d³ / l³ = 0.343. Two tiers of log 20 have I = 2 × 785 × 10 = 15,700, three
-/// boards 49 wide and 20 thick J = 98,000: k = 0.05495, kept as 0.0550, so five share. With rot 1 in
-/// the top log, net 18, I = 573 × 9 + 7850 = 13,007: k = 0.0455, and seven share.
+/// boards 49 wide and 20 thick J = 98,000: k = 0.05495, kept as 0.0550, so five share. With rot 1
+/// in the top log, net 18, I = 573 × 9 + 7850 = 13,007: k = 0.0455, and seven share.
 #[test]
 fn a_half_at_the_border() {
     let of = |rot| {

@@ -51,8 +51,8 @@ fn close_stringer(spacing: u16, [boards, thickness, width]: [u16; 3]) -> Words {
     words
 }
 
-/// Wheels at every distance over stringers at every spacing, on thin, usual and thick boards, and on
-/// so many that seven stringers share at any spacing.
+/// Wheels at every distance over stringers at every spacing, on thin, usual and thick boards, and
+/// on so many that seven stringers share at any spacing.
 #[test]
 fn the_twin_agrees_on_every_track_and_spacing() {
     let decks = [[2, 4, 20], [2, 9, 20], [2, 20, 20], [10, 20, 60]];

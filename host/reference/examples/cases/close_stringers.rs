@@ -113,8 +113,8 @@ fn nothing_left() -> Vec<Words> {
     ]
 }
 
-/// Logs in tiers and sawn pieces, sound and decayed, on boards that spread over seven stringers, over
-/// five and over three, at the least, a usual and the greatest spacing.
+/// Logs in tiers and sawn pieces, sound and decayed, on boards that spread over seven stringers,
+/// over five and over three, at the least, a usual and the greatest spacing.
 fn sections() -> Vec<Words> {
     let on = |spacing, deck| {
         let logs = [1, 2, 3].map(|tiers| logs([26, 3, tiers], [400, spacing], deck));
