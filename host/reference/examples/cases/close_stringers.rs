@@ -76,7 +76,7 @@ fn seven_stringers() -> Vec<Words> {
     ]
 }
 
-/// k = 0.0025, 0.025 and 0.0525 at spacings that put the wheels one to ten stringers apart, over a
+/// k = 0.0025, 0.025 and 0.05 at spacings that put the wheels one to ten stringers apart, over a
 /// stringer and between two.
 fn over_seven() -> Vec<Words> {
     let of = |pieces| {
@@ -85,7 +85,7 @@ fn over_seven() -> Vec<Words> {
             with(piece, &[(S5, pieces)])
         })
     };
-    [1, 10, 21].into_iter().flat_map(of).collect()
+    [1, 10, 20].into_iter().flat_map(of).collect()
 }
 
 /// The deck's rot alone grows, from seven stringers over five to three; then the stringer's, from
