@@ -77,7 +77,7 @@ fn five_stringers_by_hand() {
 /// 17.28575 = 0.45876, those under them 7.03575 / 17.28575: β = 0.4588. E = 190 = 3 × 50 + 40:
 /// under the first wheel 4.93075 and 10/50 of the third share, 4.95225 / 17.28575 = 0.28649;
 /// without the third it would be 0.28525. (3072 × 2000/3 × 1.3 − 2.4 × 0.2 × 40,000) / (1.1 × β ×
-/// 40,000) = 130.93447 and 209.6779.
+/// 40,000) = 130.93445 and 209.6779.
 #[test]
 fn seven_stringers_by_hand() {
     let deck = Member { x: 4, h: 10, a: 50, b: 0, ..SAWN };
