@@ -100,12 +100,12 @@ fn shares(k: u64) -> ([u64; 4], u64) {
 fn beta(k: u64, spacing: u16, track: u16) -> u64 {
     let (parts, divisor) = shares(k);
     let (d, r) = (u64::from(spacing), u64::from(track % spacing));
-    let reach = if parts[3] == 0 { 2 } else { 3 };
-    // Places are counted from the first that is reached, so that none is below 0.
-    let (first, second) = (reach, reach + usize::from(track / spacing));
+    // Places are counted from three left of the first wheel, so that none is below 0. Three places
+    // to each side for every spread: a loop that asks how far a spread reaches takes longer.
+    let (first, second) = (3, 3 + usize::from(track / spacing));
     let part = |place: usize, wheel: usize| parts.get(place.abs_diff(wheel)).copied().unwrap_or(0);
     let influence = |j| d * part(j, first) + (d - r) * part(j, second) + r * part(j, second + 1);
-    let greatest = (0..=second + 1 + reach).map(influence).max().unwrap_or(0);
+    let greatest = (0..=second + 4).map(influence).max().unwrap_or(0);
     (10_000 * greatest).div_ceil(divisor * d)
 }
 
