@@ -204,42 +204,51 @@ fn the_greatest_stiffness_number() {
     assert_eq!(permitted(&gone, 0, 190), [0, 0]);
 }
 
-/// Pieces 12 by 20 have W = 800 and I = 8000 each; the boards are ten, 20 thick. Over l = 2 d, k is
-/// I / J. Ten pieces on boards 12 wide have J = 80,000, so k is 1 and the shares 3/5 and 1/5.
-/// Boards 60 wide have J = 400,000: with ten pieces k is 0.2, and the shares are 4.88, 3.2, 0.4
-/// over 12.08; with one it is 0.02, and they are 2.492608, 2.1584, 1.4528, 0.6412 over 10.997408.
-/// Over l = 4 d it is 0.0025: 1.180819, 1.142788, 1.057388, 0.955019 over 7.491207. Where l is too
-/// short, it is twice as long and the boards are 10 thick.
+/// Pieces 12 by 20, the width of ten boards 20 thick, and the span in spacings. Each piece has W =
+/// 800 and I = 8000; over l = 2 d, k is I / J. Boards 12 wide have J = 80,000, 60 wide 400,000.
+type Shape = [u16; 3];
+
+/// k = 1: 3/5 and 1/5.
+const THREE: Shape = [10, 12, 2];
+/// k = 0.2: 4.88, 3.2, 0.4 over 12.08.
+const FIVE: Shape = [10, 60, 2];
+/// k = 0.02: 2.492608, 2.1584, 1.4528, 0.6412 over 10.997408.
+const SEVEN: Shape = [1, 60, 2];
+/// k = 0.0025, almost even: 1.180819, 1.142788, 1.057388, 0.955019 over 7.491207.
+const EVEN: Shape = [1, 60, 4];
+
+/// Spacing, track, and β in ten-thousandths.
+const WHEELS: [(Shape, u16, u16, u64, &str); 24] = [
+    (THREE, 100, 100, 8000, "m 1: neighbours, 3/5 + 1/5"),
+    (THREE, 100, 150, 7000, "m 1, r 50: 3/5 + half of 1/5"),
+    (THREE, 100, 200, 6000, "m 2: 3/5; between the wheels 1/5 + 1/5"),
+    (THREE, 50, 110, 6000, "m 2, r 10: 3/5; between the wheels 1/5 + 4/5 of 1/5"),
+    (THREE, 30, 300, 6000, "m 10: the wheels have no stringer in common"),
+    (FIVE, 100, 100, 6689, "m 1: 4.88 + 3.2"),
+    (FIVE, 100, 199, 5312, "m 1, r 99: between the wheels 3.2 + (4.88 + 99 × 3.2) / 100"),
+    (FIVE, 100, 200, 5299, "m 2: between the wheels 3.2 + 3.2"),
+    (FIVE, 100, 250, 4206, "m 2, r 50: 4.88 + half of 0.4"),
+    (FIVE, 75, 300, 4040, "m 4: 4.88; in the middle 0.4 + 0.4"),
+    (FIVE, 60, 300, 4040, "m 5: no stringer in common"),
+    (FIVE, 30, 299, 4040, "m 9, r 29: no stringer in common"),
+    (SEVEN, 100, 100, 4230, "m 1: 2.492608 + 2.1584"),
+    (SEVEN, 100, 200, 3926, "m 2: between the wheels 2.1584 + 2.1584"),
+    (SEVEN, 100, 300, 3284, "m 3: between the wheels 2.1584 + 1.4528"),
+    (SEVEN, 60, 255, 2458, "m 4, r 15: in the middle 1.75 × 1.4528 + 0.25 × 0.6412"),
+    (SEVEN, 60, 300, 2267, "m 5: 2.492608; between the wheels 1.4528 + 0.6412"),
+    (EVEN, 100, 300, 2938, "m 3: between the wheels 1.142788 + 1.057388"),
+    (EVEN, 75, 300, 2824, "m 4: in the middle 1.057388 + 1.057388"),
+    (EVEN, 60, 300, 2687, "m 5: between the wheels 1.057388 + 0.955019"),
+    (EVEN, 50, 300, 2550, "m 6: in the middle 0.955019 + 0.955019"),
+    (EVEN, 45, 300, 1700, "m 6, r 30: 0.955019 + a third of 0.955019"),
+    (EVEN, 40, 300, 1577, "m 7, r 20: 1.180819; no stringer in common"),
+    (EVEN, 30, 300, 1577, "m 10: no stringer in common"),
+];
+
 #[test]
 fn wheels_near_and_far_apart() {
-    // Pieces, width of the boards, and spacings in the span.
-    let (three, five, seven, even) = ([10, 12, 2], [10, 60, 2], [1, 60, 2], [1, 60, 4]);
-    for ([pieces, width, spacings], spacing, track, beta, what) in [
-        (three, 100, 100, 8000, "m 1: neighbours, 3/5 + 1/5"),
-        (three, 100, 150, 7000, "m 1, r 50: 3/5 + half of 1/5"),
-        (three, 100, 200, 6000, "m 2: 3/5; between the wheels 1/5 + 1/5"),
-        (three, 50, 110, 6000, "m 2, r 10: 3/5; between the wheels 1/5 + 4/5 of 1/5"),
-        (three, 30, 300, 6000, "m 10: the wheels have no stringer in common"),
-        (five, 100, 100, 6689, "m 1: 4.88 + 3.2"),
-        (five, 100, 199, 5312, "m 1, r 99: between the wheels 3.2 + (4.88 + 99 × 3.2) / 100"),
-        (five, 100, 200, 5299, "m 2: between the wheels 3.2 + 3.2"),
-        (five, 100, 250, 4206, "m 2, r 50: 4.88 + half of 0.4"),
-        (five, 75, 300, 4040, "m 4: 4.88; in the middle 0.4 + 0.4"),
-        (five, 60, 300, 4040, "m 5: no stringer in common"),
-        (five, 30, 299, 4040, "m 9, r 29: no stringer in common"),
-        (seven, 100, 100, 4230, "m 1: 2.492608 + 2.1584"),
-        (seven, 100, 200, 3926, "m 2: between the wheels 2.1584 + 2.1584"),
-        (seven, 100, 300, 3284, "m 3: between the wheels 2.1584 + 1.4528"),
-        (seven, 60, 255, 2458, "m 4, r 15: in the middle 1.75 × 1.4528 + 0.25 × 0.6412"),
-        (seven, 60, 300, 2267, "m 5: 2.492608; in the middle 1.4528 + 0.6412"),
-        (even, 100, 300, 2938, "m 3: between the wheels 1.142788 + 1.057388"),
-        (even, 75, 300, 2824, "m 4: in the middle 1.057388 + 1.057388"),
-        (even, 60, 300, 2687, "m 5: in the middle 1.057388 + 0.955019"),
-        (even, 50, 300, 2550, "m 6: in the middle 0.955019 + 0.955019"),
-        (even, 45, 300, 1700, "m 6, r 30: 0.955019 + a third of 0.955019"),
-        (even, 40, 300, 1577, "m 7, r 20: 1.180819; no stringer in common"),
-        (even, 30, 300, 1577, "m 10: no stringer in common"),
-    ] {
+    for ([pieces, width, spacings], spacing, track, beta, what) in WHEELS {
+        // Twice the span over boards half as thick has the same k: the least span is 100.
         let span = spacings * spacing;
         let (span, thickness) = if span < 100 { (2 * span, 10) } else { (span, 20) };
         let piece = of_piece(close_stringer(span, spacing, [10, thickness, width, 0]), [12, 20]);
