@@ -7,7 +7,7 @@ use native.Mathlib.Omega.{arith}
 use borrow.Author.Tests.{le-leb, lt-leb}
 use Rattle.section.specs.Choose.{choose}
 use Rattle.section.specs.Fraction.{Fraction, Sound, over, square, cube, atMost, _·_, _⊑_, _⊏_}
-use Rattle.section.proofs.Order.{≐-refl, ≐-sym, in-smaller-unit, over-sound}
+use Rattle.section.proofs.Order.{≐-refl, over-sound, over-times}
 use Rattle.section.proofs.Products.{product-cap}
 use Rattle.spread.specs.Spread.{Spread, threeStringers, fiveStringers, threeOrFive, sevenStringers, SEVEN-BELOW, spreadOf, NothingMoves, share, EverySpreadAddsToOne}
 use Rattle.spread.specs.Stiffness.{tenThousandths}
@@ -19,8 +19,8 @@ use Rattle.spread.proofs.Scaled.{Over, whole-over, plus, times, of-diff
 linear-over : (k : ℕ) → Over 10000 (tenThousandths k) k
 linear-over k = record { sound = over-sound k 10000 (omega arith); is = ≐-refl }
 
-in-unit : (c D : ℕ) {a : Fraction} {x : ℕ} → Over D a x → Over (c * D) a (c * x)
-in-unit c D {x = x} p = record { sound = p .sound; is = ≐-sym (in-smaller-unit c x D (≐-sym (p .is))) }
+in-unit : (c D : ℕ) {a : Fraction} {x : ℕ} → Over D a x → Over (D * c) a (x * c)
+in-unit c D {x = x} p = record { sound = p .sound; is = over-times c x D (p .is) }
 
 square-over : (k : ℕ) → Over 100000000 (square (tenThousandths k)) (k * k)
 unfolding square over _·_
