@@ -9,6 +9,7 @@ use Rattle.member.specs.declared.record.Vehicle.{Vehicle}
 use Rattle.rating.specs.Judgement.{permittedFor, judgementOf}
 use Rattle.rating.specs.declared.judging.Verdict.{Verdict}
 use Rattle.rating.specs.declared.judging.Verdict.the-variants.{Pass, Refuse}
+use Rattle.files.specs.Reading.{orElse}
 use Rattle.files.specs.SurveyFile.{countOf, recordAt, recordsOf, readSurvey}
 use Rattle.files.specs.declared.Reading.{Reading}
 use Rattle.files.specs.declared.Reading.the-variants.{Taken, Refused}
@@ -23,11 +24,7 @@ use Rattle.between.specs.declared.BetweenJudged.the-variants.{Refused as
 abbrev pub test : (number : ℕ) (holds : Bool) → Reading
 test number holds = choose holds Taken (Refused (record { number = number; place = 0 }))
 
--- the earlier answer where it is a refusal, and the first refusal of a row of tests
-abbrev pub orElse : (earlier later : Reading) → Reading
-orElse Taken later = later
-orElse (Refused r) later = Refused r
-
+-- the first refusal of a row of tests
 abbrev pub firstRefusal : List Reading → Reading
 firstRefusal [] = Taken
 firstRefusal (a ∷ row) = orElse a (firstRefusal row)

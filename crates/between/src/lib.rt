@@ -5,7 +5,8 @@ ghost use Prim.Native.Nat.{_<_};
 ghost use lib.ListN.{length};
 ghost use Rattle.member.specs.Format.{AllowedVehicle};
 ghost use Rattle.files.specs.SurveyFile.{readSurvey};
-ghost use Rattle.between.specs.Between.{test, orElse, pairAnswer, betweenAnswered, betweenList};
+ghost use Rattle.files.specs.Reading.{orElse};
+ghost use Rattle.between.specs.Between.{test, pairAnswer, betweenAnswered, betweenList};
 
 pub mod bounds;
 pub mod order;

@@ -9,13 +9,13 @@ use native.Mathlib.Omega.{arith}
 use lib.ListN.{length, take, drop, length-take}
 use lib.Seq.{take-all, take-take, take-add, drop-at, length-take-le, getD-take, getD-drop}
 use borrow.Author.Tests.{le-leb, ne-eqb}
-use Rattle.member.specs.Format.{_‥_}
+use Rattle.member.specs.Format.{Range, _‥_}
 use Rattle.member.specs.Fields.{MOST-AXLES}
 use Rattle.files.specs.Words.{byteAt}
 use Rattle.files.specs.Reading.{_unless_, firstOf, isIn}
 use Rattle.files.specs.Header.{marked, headerFault}
 use Rattle.files.specs.SurveyFile.{countOf}
-use Rattle.files.specs.VehicleFile.{VEHICLE-HEADER, AXLE, axlesOf, axleFaults, blankVehicle, vehicleHeader, vehicleAnswer, readVehicle}
+use Rattle.files.specs.VehicleFile.{VEHICLE-HEADER, AXLE, VEHICLE-VERSIONS, axlesOf, axleFaults, blankVehicle, vehicleHeader, vehicleAnswer, readVehicle}
 use Rattle.files.specs.declared.VehicleRead.{VehicleRead}
 use Rattle.files.proofs.Tests.{first-is}
 use Rattle.files.proofs.Faults.{refusal, head-first}
@@ -28,35 +28,35 @@ then-same : (o : Outcome) (f g : Session → Outcome) → ((s : Session) → f s
 then-same o f g h = rw (h (o .session))
 
 -- the header's fault of a file that is longer than its count says
-longFault : (letter header most : ℕ) → List ℕ → ℕ
-longFault letter header most bytes =
-    firstOf (2 unless marked bytes letter ∷ 3 unless isIn (1 ‥ most) (byteAt bytes (header - 1)) ∷ 1 ∷ [])
+longFault : (letter : ℕ) (versions : Range) (header most : ℕ) → List ℕ → ℕ
+longFault letter versions header most bytes =
+    firstOf (2 unless marked bytes letter versions ∷ 3 unless isIn (1 ‥ most) (byteAt bytes (header - 1)) ∷ 1 ∷ [])
 
-module _ (letter header most size : ℕ) (bytes : List ℕ) where
-  long-fault : header + size * byteAt bytes (header - 1) < length bytes → headerFault letter header most size bytes ≡ longFault letter header most bytes
+module _ (letter : ℕ) (versions : Range) (header most size : ℕ) (bytes : List ℕ) where
+  long-fault : header + size * byteAt bytes (header - 1) < length bytes → headerFault letter versions header most size bytes ≡ longFault letter versions header most bytes
   unfolding headerFault longFault
   long-fault h =
       rw
       (le-leb header (length bytes) (omega arith), ne-eqb (length bytes) (header + size * byteAt bytes (header - 1)) (λ e. omega arith))
 
-  some-fault : 0 < longFault letter header most bytes
+  some-fault : 0 < longFault letter versions header most bytes
   unfolding longFault
   some-fault =
       let some : ℕ → Type 0 = λ n. 0 < n in
       let counted = isIn (1 ‥ most) (byteAt bytes (header - 1)) in
-      first-is some 2 (marked bytes letter) (3 unless counted ∷ 1 ∷ []) (omega arith)
+      first-is some 2 (marked bytes letter versions) (3 unless counted ∷ 1 ∷ []) (omega arith)
       (first-is some 3 counted (1 ∷ []) (omega arith) (omega arith))
 
 -- it is the same of two files with the same header
-same-fault : (letter header most : ℕ) (v w : List ℕ) → 5 ≤ header → ((i : ℕ) → i < header → byteAt w i ≡ byteAt v i) → longFault letter header most w ≡ longFault letter header most v
+same-fault : (letter : ℕ) (versions : Range) (header most : ℕ) (v w : List ℕ) → 5 ≤ header → ((i : ℕ) → i < header → byteAt w i ≡ byteAt v i) → longFault letter versions header most w ≡ longFault letter versions header most v
 unfolding longFault marked
-same-fault letter header most v w five same =
+same-fault letter versions header most v w five same =
     rw
     (same 0 (omega arith), same 1 (omega arith), same 2 (omega arith), same 3 (omega arith), same 4 (omega arith), same (header - 1) (omega arith))
 
 -- what a vehicle file is read as whose header has a fault
 module _ (v : List ℕ) (n : ℕ) (fault : 0 < n) where
-  faulty-header : headerFault 86 VEHICLE-HEADER MOST-AXLES AXLE v ≡ n → vehicleHeader v ≡ n
+  faulty-header : headerFault 86 VEHICLE-VERSIONS VEHICLE-HEADER MOST-AXLES AXLE v ≡ n → vehicleHeader v ≡ n
   unfolding vehicleHeader
   faulty-header e = rw (e, ne-eqb n 0 (λ z. omega arith))
 
@@ -70,11 +70,11 @@ module _ (v : List ℕ) (n : ℕ) (fault : 0 < n) where
 
 -- a vehicle file that is longer than its count says is refused with its header's fault, at place 0
 long-vehicle : (v : List ℕ) → VEHICLE-HEADER + AXLE * axlesOf v < length v →
-    _≡_ {A = VehicleRead} (readVehicle v) (record { answer = refusal (longFault 86 VEHICLE-HEADER MOST-AXLES v) 0; vehicle = blankVehicle })
+    _≡_ {A = VehicleRead} (readVehicle v) (record { answer = refusal (longFault 86 VEHICLE-VERSIONS VEHICLE-HEADER MOST-AXLES v) 0; vehicle = blankVehicle })
 long-vehicle v h =
-    let n = longFault 86 VEHICLE-HEADER MOST-AXLES v in
-    let fault = some-fault 86 VEHICLE-HEADER MOST-AXLES AXLE v in
-    faulty-read v n fault (faulty-answer v n fault (faulty-header v n fault (long-fault 86 VEHICLE-HEADER MOST-AXLES AXLE v h)))
+    let n = longFault 86 VEHICLE-VERSIONS VEHICLE-HEADER MOST-AXLES v in
+    let fault = some-fault 86 VEHICLE-VERSIONS VEHICLE-HEADER MOST-AXLES AXLE v in
+    faulty-read v n fault (faulty-answer v n fault (faulty-header v n fault (long-fault 86 VEHICLE-VERSIONS VEHICLE-HEADER MOST-AXLES AXLE v h)))
 
 -- a vehicle file and its beginning, where both are longer than any count byte calls for, are read alike
 pub same-vehicle : (v : List ℕ) (n : ℕ) → byteAt v 8 < 256 → VEHICLE-HEADER + AXLE * 255 < n → readVehicle (take n v) ≡ readVehicle v
@@ -86,7 +86,7 @@ same-vehicle v n byte enough =
           let size : length w ≡ n = length-take-le n v (omega arith) in
           let same : (i : ℕ) → i < VEHICLE-HEADER → byteAt w i ≡ byteAt v i = λ i l. getD-take n v i 0 (omega arith) in
           let count : byteAt w 8 ≡ byteAt v 8 = same 8 (omega arith) in
-          long-vehicle w (omega arith) ∙ rw (same-fault 86 VEHICLE-HEADER MOST-AXLES v w (omega arith) same) (sym (long-vehicle v (omega arith)))
+          long-vehicle w (omega arith) ∙ rw (same-fault 86 VEHICLE-VERSIONS VEHICLE-HEADER MOST-AXLES v w (omega arith) same) (sym (long-vehicle v (omega arith)))
     ]
 
 -- the end of a beginning is a beginning of the end

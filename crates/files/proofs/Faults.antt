@@ -4,6 +4,7 @@ use Prim.Native.Nat.{ℕ, zero, suc, _+_, _-_, _≤_, _<_}
 use mathlib.Core.Path.{_≡_, refl, ap, sym, _∙_}
 use mathlib.Core.List.{List, [], _∷_, _++_}
 use mathlib.Core.Bool.{Bool, true, false}
+use mathlib.Core.Logic.{_⊎_, inl, inr}
 use native.Mathlib.Numerals.{add-one}
 use native.Mathlib.Nat.{add-zero}
 use native.Mathlib.Omega.{arith}
@@ -12,7 +13,7 @@ use lib.Dec.{eqb}
 use borrow.Author.Tests.{eqb-true, eqb-false, ne-eqb}
 use Rattle.section.specs.Choose.{choose}
 use Rattle.files.specs.Words.{each}
-use Rattle.files.specs.Reading.{firstFault, numberOf, placeOf}
+use Rattle.files.specs.Reading.{firstFault, orElse, numberOf, placeOf}
 use Rattle.files.specs.declared.Refusal.{Refusal}
 use Rattle.files.specs.declared.Reading.{Reading}
 use Rattle.files.specs.declared.Reading.the-variants.{Taken, Refused}
@@ -29,6 +30,15 @@ refused-not number place e = let z : _≡_ {A = ℕ} 0 1 = cc in omega arith
 pub reading-case : (a : Reading) (P : Reading → Type 0) → (a ≡ Taken → P Taken) → ((r : Refusal) → a ≡ Refused r → P (Refused r)) → P a
 reading-case Taken P t f = t refl
 reading-case (Refused r) P t f = f r refl
+
+-- of two answers, one after the other: both take, or the first that refuses decides
+pub both-taken : (a b : Reading) → orElse a b ≡ Taken → (a ≡ Taken) × (b ≡ Taken)
+both-taken Taken b e = (refl, e)
+both-taken (Refused r) b e = absurd (refused-not (r .number) (r .place) e)
+
+pub one-refused : (a b : Reading) (r : Refusal) → orElse a b ≡ Refused r → (a ≡ Refused r) ⊎ ((a ≡ Taken) × (b ≡ Refused r))
+one-refused Taken b r e = inr (refl, e)
+one-refused (Refused q) b r e = inl e
 
 -- a fault of the head is the answer; after a good head the rest decide
 pub head-first : (place n head : ℕ) (rest : List ℕ) → head ≡ n → (n ≡ 0 → ⊥) → firstFault place (head ∷ rest) ≡ refusal n place

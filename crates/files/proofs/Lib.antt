@@ -5,6 +5,7 @@ mod Headers
 pub mod Each
 pub mod Faults
 pub mod Members
+mod Sequences
 pub mod Refusals
 pub mod Surveys
 pub mod Vehicles

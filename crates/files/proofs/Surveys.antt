@@ -3,6 +3,7 @@
 use Prim.Native.Nat.{ℕ, zero, suc, _+_, _-_, _*_, _≤_, _<_}
 use mathlib.Core.Path.{_≡_, refl, ap, sym, _∙_}
 use mathlib.Core.List.{List, _∷_}
+use mathlib.Core.Logic.{inl, inr, ⊎-elim}
 use native.Mathlib.Omega.{arith}
 use lib.ListN.{length, getD, replicate}
 use Rattle.member.specs.declared.record.Member.{Member}
@@ -10,17 +11,18 @@ use Rattle.member.specs.declared.record.Survey.{Survey}
 use Rattle.member.specs.Fields.{MOST-MEMBERS, FIELDS, field}
 use Rattle.member.specs.Format.{_‥_, In, AllowedMember}
 use Rattle.files.specs.Words.{wordAt}
-use Rattle.files.specs.Reading.{firstFault}
-use Rattle.files.specs.SurveyFile.{SURVEY-HEADER, RECORD, countOf, recordAt, surveyHeader, memberFault, recordFaults, surveyAnswer, blankMember, blankSurvey, surveyOf, surveyBy, readSurvey}
+use Rattle.files.specs.Reading.{firstFault, orElse}
+use Rattle.files.specs.SurveyFile.{SURVEY-HEADER, RECORD, SURVEY-VERSIONS, countOf, recordAt, surveyHeader, memberFault, recordFaults, sequenceFault, sequenceAnswer, surveyAnswer, blankMember, blankSurvey, surveyOf, surveyBy, readSurvey}
 use Rattle.files.specs.Allowed.{AllowedSurveyFile}
-use Rattle.files.specs.Refused.{FirstRecord, SurveyRefusal}
+use Rattle.files.specs.Refused.{Headed, FirstRecord, SurveyRefusal}
 use Rattle.files.specs.declared.Refusal.{Refusal}
 use Rattle.files.specs.declared.Reading.{Reading}
 use Rattle.files.specs.declared.Reading.the-variants.{Taken, Refused}
 use Rattle.files.specs.declared.SurveyRead.{SurveyRead}
 use Rattle.files.proofs.Each.{length-each, getD-each, getD-padded}
-use Rattle.files.proofs.Faults.{refusal, head-first, head-clear, fault-at, taken-none, none-taken, FaultAt, refused-at}
+use Rattle.files.proofs.Faults.{refusal, both-taken, one-refused, head-first, head-clear, fault-at, taken-none, none-taken, FaultAt, refused-at}
 use Rattle.files.proofs.Headers.{headed, header-clear, header-named, header-is, header-number}
+use Rattle.files.proofs.Sequences.{fault-given, fault-read, sequence-read, sequence-given, sequence-first, sequence-refused}
 use Rattle.files.proofs.Refusals.{clear-allowed, allowed-clear, member-named, member-is, member-number}
 
 -- the reading is its answer with the survey that belongs to it
@@ -29,26 +31,64 @@ unfolding readSurvey
 read-as bytes answer survey a s = rw (s, a)
 
 module _ (bytes : List ℕ) where
+  -- the answer for header and records, before their order
+  abbrev recordsAnswer : Reading
+  recordsAnswer = firstFault 0 (surveyHeader bytes ∷ recordFaults bytes (countOf bytes))
+
+  abbrev HeadedSurvey : Type 0
+  HeadedSurvey = Headed 82 SURVEY-VERSIONS SURVEY-HEADER MOST-MEMBERS RECORD bytes
+
+  abbrev AllowedRecords : Type 0
+  AllowedRecords = (i : ℕ) → i < countOf bytes → AllowedMember (recordAt bytes i)
+
+  pub headed-survey : surveyHeader bytes ≡ 0 → HeadedSurvey
+  headed-survey = headed 82 SURVEY-VERSIONS SURVEY-HEADER MOST-MEMBERS RECORD bytes (omega arith)
+
+  -- a fault of the header is the answer; after a good one the records decide, and then their order
+  pub headed-first : (n : ℕ) → surveyHeader bytes ≡ n → (n ≡ 0 → ⊥) → surveyAnswer bytes ≡ refusal n 0
+  unfolding surveyAnswer
+  headed-first n e some = rw (head-first 0 n (surveyHeader bytes) (recordFaults bytes (countOf bytes)) e some)
+
+  pub headed-clear : surveyHeader bytes ≡ 0 → surveyAnswer bytes ≡ orElse (firstFault 1 (recordFaults bytes (countOf bytes))) (sequenceAnswer bytes (countOf bytes))
+  unfolding surveyAnswer
+  headed-clear e = rw (head-clear 0 (surveyHeader bytes) (recordFaults bytes (countOf bytes)) e)
+
+  survey-clear : HeadedSurvey → surveyHeader bytes ≡ 0
+  survey-clear = header-clear 82 SURVEY-VERSIONS SURVEY-HEADER MOST-MEMBERS RECORD bytes (omega arith)
+
+  -- it takes them exactly where the header and every record are good
+  records-good : recordsAnswer ≡ Taken → HeadedSurvey × AllowedRecords
+  records-good e =
+      let none = taken-none 0 (surveyHeader bytes ∷ recordFaults bytes (countOf bytes)) e in (
+        headed-survey (none 0),
+        λ i l. clear-allowed (recordAt bytes i) (sym (getD-each (λ k. memberFault (recordAt bytes k)) (countOf bytes) i 0 l) ∙ none (suc i)),
+      )
+
+  good-records : HeadedSurvey → AllowedRecords → recordsAnswer ≡ Taken
+  good-records h members =
+      head-clear 0 _ (recordFaults bytes (countOf bytes)) (survey-clear h) ∙ none-taken 1 (λ k. memberFault (recordAt bytes k)) (countOf bytes) (λ i l. allowed-clear (recordAt bytes i) (members i l))
+
   -- a file is taken exactly when it is allowed
   pub taken-allowed : readSurvey bytes .answer ≡ Taken → AllowedSurveyFile bytes
   unfolding readSurvey surveyAnswer
   taken-allowed e =
-      let none = taken-none 0 (surveyHeader bytes ∷ recordFaults bytes (countOf bytes)) e in
-      let h = headed 82 SURVEY-HEADER MOST-MEMBERS RECORD bytes (omega arith) (none 0) in
+      let (records, sequence) = both-taken recordsAnswer _ e in
+      let (h, members) = records-good records in
       record {
         mark = h .marked .0;
         version = h .marked .1;
         count = h .count;
         size = h .sized;
-        members = λ i l. clear-allowed (recordAt bytes i) (sym (getD-each (λ k. memberFault (recordAt bytes k)) (countOf bytes) i 0 l) ∙ none (suc i));
+        members = members;
+        order = sequence-read bytes (countOf bytes) sequence;
       }
 
   pub allowed-taken : AllowedSurveyFile bytes → readSurvey bytes .answer ≡ Taken
   unfolding readSurvey surveyAnswer
   allowed-taken a =
       let long : SURVEY-HEADER ≤ length bytes = omega (arith, a .size) in
-      let head = header-clear 82 SURVEY-HEADER MOST-MEMBERS RECORD bytes (omega arith) (record { long = long; marked = (a .mark, a .version); count = a .count; sized = a .size }) in
-      head-clear 0 _ (recordFaults bytes (countOf bytes)) head ∙ none-taken 1 (λ k. memberFault (recordAt bytes k)) (countOf bytes) (λ i l. allowed-clear (recordAt bytes i) (a .members i l))
+      let h : HeadedSurvey = record { long = long; marked = (a .mark, a .version); count = a .count; sized = a .size } in
+      rw (good-records h (a .members)) (sequence-given bytes (countOf bytes) (a .order))
 
   -- a taken file's survey is the file's
   pub taken-survey : readSurvey bytes .answer ≡ Taken → readSurvey bytes .survey ≡ surveyOf bytes
@@ -79,24 +119,21 @@ module _ (bytes : List ℕ) where
   unfolding readSurvey
   refused-blank r e = rw e
 
-  -- a refusal is the first fault by place
-  pub refused-first : (r : Refusal) → readSurvey bytes .answer ≡ Refused r → FaultAt 0 (surveyHeader bytes ∷ recordFaults bytes (countOf bytes)) r
-  unfolding readSurvey surveyAnswer
-  refused-first r e = refused-at 0 (surveyHeader bytes ∷ recordFaults bytes (countOf bytes)) r e
-
-  refusal-at : (r : Refusal) (p : ℕ) → r .place ≡ p → FaultAt 0 (surveyHeader bytes ∷ recordFaults bytes (countOf bytes)) r → SurveyRefusal bytes r
-  refusal-at r zero e h =
+  -- a refusal of header or record is the first fault by place, and says so of the file
+  record-refusal : (r : Refusal) (p : ℕ) → r .place ≡ p → FaultAt 0 (surveyHeader bytes ∷ recordFaults bytes (countOf bytes)) r → SurveyRefusal bytes r
+  record-refusal r zero e h =
       let none : r .place - 0 ≡ 0 = omega arith in
-      let fault = header-named 82 SURVEY-HEADER MOST-MEMBERS RECORD bytes (omega arith) (r .number) (rw none at (h .number)) (h .fault) in
+      let fault = header-named 82 SURVEY-VERSIONS SURVEY-HEADER MOST-MEMBERS RECORD bytes (omega arith) (r .number) (rw none at (h .number)) (h .fault) in
       let small = header-number fault in
       record {
-        number = omega arith;
+        number = inl (omega arith);
         header = λ l. e;
         place = λ l. absurd (omega arith);
         header-fault = λ z. fault;
-        record-fault = λ l. absurd (omega arith);
+        record-fault = λ l s. absurd (omega arith);
+        sequence-fault = λ z. absurd (omega arith);
       }
-  refusal-at r (suc i) e h =
+  record-refusal r (suc i) e h =
       let fault : ℕ → ℕ = λ k. memberFault (recordAt bytes k) in
       let step : r .place - 0 ≡ suc i = omega arith in
       let within : i < countOf bytes = omega (arith, h .below, length-each fault (countOf bytes)) in
@@ -107,35 +144,72 @@ module _ (bytes : List ℕ) where
       λ k same.
       rw same
       (record {
-        headed = headed 82 SURVEY-HEADER MOST-MEMBERS RECORD bytes (omega arith) (h .first 0 (omega arith));
+        headed = headed-survey (h .first 0 (omega arith));
         within = within;
         fault = named;
         before = λ k b. clear-allowed (recordAt bytes k) (sym (getD-each fault (countOf bytes) k 0 (omega arith)) ∙ h .first (suc k) (omega arith));
       }) in
       record {
-        number = omega arith;
+        number = inl (omega arith);
         header = λ l. absurd (omega arith);
         place = λ l. omega arith;
         header-fault = λ z. absurd (omega arith);
-        record-fault = λ l. first _ (omega arith);
+        record-fault = λ l s. first _ (omega arith);
+        sequence-fault = λ z. absurd (omega arith);
       }
 
-  -- what it says of the file
+  -- and one of their order
+  sequence-refusal : (r : Refusal) → recordsAnswer ≡ Taken → sequenceAnswer bytes (countOf bytes) ≡ Refused r → SurveyRefusal bytes r
+  sequence-refusal r e f =
+      let (version, h) = sequence-first bytes (countOf bytes) r f in
+      let i = r .place - 1 in
+      let from = h .from in
+      let within : i < countOf bytes = omega (arith, h .below, length-each (sequenceFault bytes) (countOf bytes)) in
+      let (is, at) = fault-read bytes i (r .number) (sym (getD-each (sequenceFault bytes) (countOf bytes) i 0 within) ∙ h .number) (h .fault) in
+      let (head, members) = records-good e in
+      record {
+        number = inr is;
+        header = λ l. absurd (omega arith);
+        place = λ l. omega arith;
+        header-fault = λ z. absurd (omega arith);
+        record-fault = λ l s. absurd (omega arith);
+        sequence-fault = λ z.
+            record {
+              headed = head;
+              version = version;
+              good = members;
+              within = within;
+              fault = at;
+              first = λ k l b. omega (arith, fault-given bytes k b, getD-each (sequenceFault bytes) (countOf bytes) k 0 (omega arith), h .first k l);
+            };
+      }
+
+  -- what a refusal says of the file
   pub refused-named : (r : Refusal) → readSurvey bytes .answer ≡ Refused r → SurveyRefusal bytes r
-  refused-named r e = refusal-at r (r .place) refl (refused-first r e)
+  unfolding readSurvey surveyAnswer
+  refused-named r e =
+      ⊎-elim (λ f. record-refusal r (r .place) refl (refused-at 0 (surveyHeader bytes ∷ recordFaults bytes (countOf bytes)) r f)) (λ (t, f). sequence-refusal r t f)
+      (one-refused recordsAnswer _ r e)
 
   -- and a file of which a refusal says so is refused by it
   pub named-refused : (r : Refusal) → SurveyRefusal bytes r → readSurvey bytes .answer ≡ Refused r
   unfolding readSurvey surveyAnswer
-  named-refused r h = go (r .place) refl
+  named-refused r h = ⊎-elim (λ small. rw (of-record small (r .place) refl)) of-sequence (h .number)
     where
-      go : (p : ℕ) → r .place ≡ p → firstFault 0 (surveyHeader bytes ∷ recordFaults bytes (countOf bytes)) ≡ Refused r
-      go zero e =
-          head-first 0 (r .number) (surveyHeader bytes) (recordFaults bytes (countOf bytes)) (header-is 82 SURVEY-HEADER MOST-MEMBERS RECORD bytes (omega arith) (h .header-fault e)) (omega (arith, h .number)) ∙ ap (refusal (r .number)) (sym e)
-      go (suc i) e =
+      of-record : In (1 ‥ 8) (r .number) → (p : ℕ) → r .place ≡ p → recordsAnswer ≡ Refused r
+      of-record small zero e =
+          head-first 0 (r .number) (surveyHeader bytes) (recordFaults bytes (countOf bytes)) (header-is 82 SURVEY-VERSIONS SURVEY-HEADER MOST-MEMBERS RECORD bytes (omega arith) (h .header-fault e)) (omega (arith, small)) ∙ ap (refusal (r .number)) (sym e)
+      of-record small (suc i) e =
           let fault : ℕ → ℕ = λ k. memberFault (recordAt bytes k) in
           let here : r .place - 1 ≡ i = omega arith in
-          let first = rw here at (h .record-fault (omega arith)) in
+          let first = rw here at (h .record-fault (omega arith) (small .1)) in
           let before = none-taken 1 fault i (λ k l. allowed-clear (recordAt bytes k) (first .before k l)) in
           let there : i + 1 ≡ r .place = omega arith in
-          head-clear 0 _ (recordFaults bytes (countOf bytes)) (header-clear 82 SURVEY-HEADER MOST-MEMBERS RECORD bytes (omega arith) (first .headed)) ∙ fault-at fault 1 i (countOf bytes) (r .number) (first .within) before (member-is (recordAt bytes i) (first .fault)) (omega (arith, h .number)) ∙ ap (refusal (r .number)) there
+          head-clear 0 _ (recordFaults bytes (countOf bytes)) (survey-clear (first .headed)) ∙ fault-at fault 1 i (countOf bytes) (r .number) (first .within) before (member-is (recordAt bytes i) (first .fault)) (omega (arith, small)) ∙ ap (refusal (r .number)) there
+
+      of-sequence : r .number ≡ 16 → orElse recordsAnswer (sequenceAnswer bytes (countOf bytes)) ≡ Refused r
+      of-sequence e =
+          let f = h .sequence-fault e in
+          let there : r .place - 1 + 1 ≡ r .place = omega (arith, h .place (omega arith)) in
+          rw (good-records (f .headed) (f .good))
+          (sequence-refused bytes (countOf bytes) (r .place - 1) (f .version) (f .within) (f .fault) (f .first) ∙ rw (there, e))

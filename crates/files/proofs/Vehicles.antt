@@ -16,7 +16,7 @@ use Rattle.member.specs.Format.{_‥_, In, classRange, trackRange, weightRange,
 use Rattle.files.specs.Reading.{_unless_, firstOf, firstFault, isIn}
 use Rattle.files.specs.Header.{headerFault}
 use Rattle.member.specs.Fields.{MOST-AXLES}
-use Rattle.files.specs.VehicleFile.{VEHICLE-HEADER, AXLE, AXLE-FIELDS, WEIGHT, DISTANCE, axlesOf, classOf, trackOf, axleField, weightAt, distanceAt, axleRange, vehicleHeader, fieldWithin, axleWithin, axleFault, axleFaults, vehicleAnswer, blankVehicle, vehicleOf, vehicleBy, readVehicle}
+use Rattle.files.specs.VehicleFile.{VEHICLE-HEADER, AXLE, VEHICLE-VERSIONS, AXLE-FIELDS, WEIGHT, DISTANCE, axlesOf, classOf, trackOf, axleField, weightAt, distanceAt, axleRange, vehicleHeader, fieldWithin, axleWithin, axleFault, axleFaults, vehicleAnswer, blankVehicle, vehicleOf, vehicleBy, readVehicle}
 use Rattle.files.specs.Allowed.{AllowedVehicleFile}
 use Rattle.files.specs.Refused.{Headed, Fronted, FrontFault, wrong-header, wrong-class-or-track, FirstAxle, VehicleRefusal}
 use Rattle.files.specs.declared.Refusal.{Refusal}
@@ -32,33 +32,33 @@ use Rattle.files.proofs.Headers.{headed, header-clear, header-named, he
 pub front-clear : (bytes : List ℕ) → Fronted bytes → vehicleHeader bytes ≡ 0
 unfolding vehicleHeader
 front-clear bytes h =
-    rw (header-clear 86 VEHICLE-HEADER MOST-AXLES AXLE bytes (omega arith) (h .head), range-in classRange (classOf bytes) (h .class), range-in trackRange (trackOf bytes) (h .track))
+    rw (header-clear 86 VEHICLE-VERSIONS VEHICLE-HEADER MOST-AXLES AXLE bytes (omega arith) (h .head), range-in classRange (classOf bytes) (h .class), range-in trackRange (trackOf bytes) (h .track))
 
 -- the tests in their order: all hold, or the first that fails gives its number
 front-case : (bytes : List ℕ) → Fronted bytes ⊎ FrontFault bytes (vehicleHeader bytes)
 unfolding vehicleHeader
 front-case bytes =
-    go (headerFault 86 VEHICLE-HEADER MOST-AXLES AXLE bytes) refl (isIn classRange (classOf bytes)) (isIn trackRange (trackOf bytes)) (in-range _ _, range-in _ _) (in-range _ _, range-in _ _)
+    go (headerFault 86 VEHICLE-VERSIONS VEHICLE-HEADER MOST-AXLES AXLE bytes) refl (isIn classRange (classOf bytes)) (isIn trackRange (trackOf bytes)) (in-range _ _, range-in _ _) (in-range _ _, range-in _ _)
   where
-    go : (n : ℕ) → headerFault 86 VEHICLE-HEADER MOST-AXLES AXLE bytes ≡ n → (a b : Bool) → (a ≡ true) ↔ In classRange (classOf bytes) → (b ≡ true) ↔ In trackRange (trackOf bytes) → Fronted bytes ⊎ FrontFault bytes (firstOf (n ∷ 7 unless (a && b) ∷ []))
+    go : (n : ℕ) → headerFault 86 VEHICLE-VERSIONS VEHICLE-HEADER MOST-AXLES AXLE bytes ≡ n → (a b : Bool) → (a ≡ true) ↔ In classRange (classOf bytes) → (b ≡ true) ↔ In trackRange (trackOf bytes) → Fronted bytes ⊎ FrontFault bytes (firstOf (n ∷ 7 unless (a && b) ∷ []))
     go (suc n) e a b class track =
-        inr (rw (ne-eqb (suc n) 0 (omega arith)) (wrong-header (header-named 86 VEHICLE-HEADER MOST-AXLES AXLE bytes (omega arith) (suc n) e (omega arith))))
+        inr (rw (ne-eqb (suc n) 0 (omega arith)) (wrong-header (header-named 86 VEHICLE-VERSIONS VEHICLE-HEADER MOST-AXLES AXLE bytes (omega arith) (suc n) e (omega arith))))
     go zero e false b class track =
-        inr (wrong-class-or-track (headed 86 VEHICLE-HEADER MOST-AXLES AXLE bytes (omega arith) e) (inl (refuted class)))
+        inr (wrong-class-or-track (headed 86 VEHICLE-VERSIONS VEHICLE-HEADER MOST-AXLES AXLE bytes (omega arith) e) (inl (refuted class)))
     go zero e true false class track =
-        inr (wrong-class-or-track (headed 86 VEHICLE-HEADER MOST-AXLES AXLE bytes (omega arith) e) (inr (refuted track)))
+        inr (wrong-class-or-track (headed 86 VEHICLE-VERSIONS VEHICLE-HEADER MOST-AXLES AXLE bytes (omega arith) e) (inr (refuted track)))
     go zero e true true class track =
-        inl (record { head = headed 86 VEHICLE-HEADER MOST-AXLES AXLE bytes (omega arith) e; class = class .0 refl; track = track .0 refl })
+        inl (record { head = headed 86 VEHICLE-VERSIONS VEHICLE-HEADER MOST-AXLES AXLE bytes (omega arith) e; class = class .0 refl; track = track .0 refl })
 
 -- and the number of a test that fails is the front's
 pub front-is : {bytes : List ℕ} {n : ℕ} → FrontFault bytes n → vehicleHeader bytes ≡ n
 unfolding vehicleHeader
 front-is {bytes} (wrong-header {n} f) =
-    rw (header-is 86 VEHICLE-HEADER MOST-AXLES AXLE bytes (omega arith) f, ne-eqb n 0 (omega (arith, header-number f)))
+    rw (header-is 86 VEHICLE-VERSIONS VEHICLE-HEADER MOST-AXLES AXLE bytes (omega arith) f, ne-eqb n 0 (omega (arith, header-number f)))
 front-is {bytes} (wrong-class-or-track h (inl c)) =
-    rw (header-clear 86 VEHICLE-HEADER MOST-AXLES AXLE bytes (omega arith) h, refutes (isIn classRange (classOf bytes)) (in-range _ _) c)
+    rw (header-clear 86 VEHICLE-VERSIONS VEHICLE-HEADER MOST-AXLES AXLE bytes (omega arith) h, refutes (isIn classRange (classOf bytes)) (in-range _ _) c)
 front-is {bytes} (wrong-class-or-track h (inr t)) =
-    rw (header-clear 86 VEHICLE-HEADER MOST-AXLES AXLE bytes (omega arith) h, refutes (isIn trackRange (trackOf bytes)) (in-range _ _) t, and-false)
+    rw (header-clear 86 VEHICLE-VERSIONS VEHICLE-HEADER MOST-AXLES AXLE bytes (omega arith) h, refutes (isIn trackRange (trackOf bytes)) (in-range _ _) t, and-false)
 
 -- the header's faults are 1, 2 and 3, then 7 for class or track
 pub front-number : {bytes : List ℕ} {n : ℕ} → FrontFault bytes n → (In (1 ‥ 3) n) ⊎ (n ≡ 7)
@@ -158,7 +158,7 @@ module _ (bytes : List ℕ) where
       let h = fronted bytes (none 0) in
       record {
         mark = h .head .marked .0;
-        version = h .head .marked .1;
+        version = omega (arith, h .head .marked .1);
         size = h .head .sized;
         vehicle = clear-vehicle h (λ i l. sym (getD-each (axleFault bytes) (axlesOf bytes) i 0 l) ∙ none (suc i));
       }
@@ -167,7 +167,7 @@ module _ (bytes : List ℕ) where
   unfolding readVehicle vehicleAnswer
   allowed-taken a =
       let long : VEHICLE-HEADER ≤ length bytes = omega (arith, a .size) in
-      let head : Headed 86 VEHICLE-HEADER MOST-AXLES AXLE bytes = record { long = long; marked = (a .mark, a .version); count = a .vehicle .axles; sized = a .size } in
+      let head : Headed 86 VEHICLE-VERSIONS VEHICLE-HEADER MOST-AXLES AXLE bytes = record { long = long; marked = (a .mark, omega (arith, a .version)); count = a .vehicle .axles; sized = a .size } in
       let front = front-clear bytes (record { head = head; class = a .vehicle .class; track = a .vehicle .track }) in
       head-clear 0 _ (axleFaults bytes (axlesOf bytes)) front ∙ none-taken 1 (axleFault bytes) (axlesOf bytes) (vehicle-clear (a .vehicle))
 

@@ -1,6 +1,7 @@
 pub mod Words
 pub mod Reading
 pub mod Header
+pub mod Sequence
 pub mod SurveyFile
 pub mod VehicleFile
 pub mod Allowed

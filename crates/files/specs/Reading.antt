@@ -24,6 +24,11 @@ abbrev pub firstFault : ℕ → List ℕ → Reading
 firstFault place [] = Taken
 firstFault place (n ∷ ns) = choose (eqb n 0) (firstFault (suc place) ns) (Refused (record { number = n; place = place }))
 
+-- the earlier answer where it is a refusal
+abbrev pub orElse : (earlier later : Reading) → Reading
+orElse Taken later = later
+orElse (Refused r) later = Refused r
+
 -- a number lies in a range
 abbrev pub isIn : Range → ℕ → Bool
 isIn r n = leb (r .low) n && leb n (r .high)

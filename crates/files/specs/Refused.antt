@@ -9,22 +9,24 @@ use mathlib.Core.Logic.{_⊎_}
 use lib.ListN.{length, take}
 use Rattle.member.specs.declared.record.Member.{Member}
 use Rattle.member.specs.Fields.{KIND, SPECIES, SPAN, CODE, MU-A, MU-B, FIELDS, LAST-KIND, MOST-MEMBERS, MOST-AXLES, field}
-use Rattle.member.specs.Format.{_‥_, In, used, rangeOf, suits, classRange, trackRange, AllowedMember}
+use Rattle.member.specs.Format.{Range, _‥_, In, used, rangeOf, suits, classRange, trackRange, AllowedMember}
 use Rattle.files.specs.declared.Refusal.{Refusal}
-use Rattle.files.specs.Words.{byteAt, wordAt}
-use Rattle.files.specs.SurveyFile.{SURVEY-HEADER, RECORD, countOf, recordAt}
-use Rattle.files.specs.VehicleFile.{VEHICLE-HEADER, AXLE, AXLE-FIELDS, classOf, trackOf, axlesOf, axleField, axleRange}
+use Rattle.files.specs.Words.{byteAt}
+use Rattle.files.specs.Header.{versionOf}
+use Rattle.files.specs.Sequence.{BeforePredecessor}
+use Rattle.files.specs.SurveyFile.{SURVEY-HEADER, RECORD, SURVEY-VERSIONS, SEQUENCE-FROM, countOf, recordAt}
+use Rattle.files.specs.VehicleFile.{VEHICLE-HEADER, AXLE, VEHICLE-VERSIONS, AXLE-FIELDS, classOf, trackOf, axlesOf, axleField, axleRange}
 
--- the letters TB and a third one, and version 1
-abbrev pub Marked : List ℕ → (letter : ℕ) → Type 0
-Marked bytes letter = (take 3 bytes ≡ 84 ∷ 66 ∷ letter ∷ []) × (wordAt bytes 3 ≡ 1)
+-- the letters TB and a third one, and one of these versions
+abbrev pub Marked : List ℕ → (letter : ℕ) (versions : Range) → Type 0
+Marked bytes letter versions = (take 3 bytes ≡ 84 ∷ 66 ∷ letter ∷ []) × In versions (versionOf bytes)
 
--- a file of this third letter (R is 82, V is 86), header, most records, and bytes of a record
-module _ (letter header most size : ℕ) (bytes : List ℕ) where
+-- a file of this third letter (R is 82, V is 86), versions, header, most records, and bytes of a record
+module _ (letter : ℕ) (versions : Range) (header most size : ℕ) (bytes : List ℕ) where
   -- a header with no fault
   pub record Headed : Type 0 where
     pub long : header ≤ length bytes
-    pub marked : Marked bytes letter
+    pub marked : Marked bytes letter versions
     pub count : In (1 ‥ most) (byteAt bytes (header - 1))
     pub sized : length bytes ≡ header + size * byteAt bytes (header - 1)
 
@@ -33,11 +35,11 @@ module _ (letter header most size : ℕ) (bytes : List ℕ) where
     -- "or too short to hold them"
     too-short : length bytes < header → HeaderFault 1
     -- "2 mark or version"
-    wrong-mark : header ≤ length bytes → ¬ (Marked bytes letter) → HeaderFault 2
+    wrong-mark : header ≤ length bytes → ¬ (Marked bytes letter versions) → HeaderFault 2
     -- "3 count of members or axles"
-    wrong-count : header ≤ length bytes → Marked bytes letter → ¬ (In (1 ‥ most) (byteAt bytes (header - 1))) → HeaderFault 3
+    wrong-count : header ≤ length bytes → Marked bytes letter versions → ¬ (In (1 ‥ most) (byteAt bytes (header - 1))) → HeaderFault 3
     -- "1 length is not what the counts say"
-    wrong-length : header ≤ length bytes → Marked bytes letter → In (1 ‥ most) (byteAt bytes (header - 1)) →
+    wrong-length : header ≤ length bytes → Marked bytes letter versions → In (1 ‥ most) (byteAt bytes (header - 1)) →
         ¬ (length bytes ≡ header + size * byteAt bytes (header - 1)) →
         HeaderFault 1
 
@@ -79,31 +81,42 @@ pub data MemberFault (m : Member) : ℕ → Type 0 where
 
 -- the header is good, the record of index i is the first that the documents do not allow, and this is its fault
 pub record FirstRecord (bytes : List ℕ) (number i : ℕ) : Type 0 where
-  pub headed : Headed 82 SURVEY-HEADER MOST-MEMBERS RECORD bytes
+  pub headed : Headed 82 SURVEY-VERSIONS SURVEY-HEADER MOST-MEMBERS RECORD bytes
   pub within : i < countOf bytes
   pub fault : MemberFault (recordAt bytes i) number
   pub before : (k : ℕ) → k < i → AllowedMember (recordAt bytes k)
 
--- "The first fault in record order ends the reading, and its place is given with 4 to 8 .. The other refusals have place 0."
+-- "16: a record before its predecessor .. after all records are otherwise good", from version 2: the record of index i is the first such
+pub record FirstOutOfSequence (bytes : List ℕ) (i : ℕ) : Type 0 where
+  pub headed : Headed 82 SURVEY-VERSIONS SURVEY-HEADER MOST-MEMBERS RECORD bytes
+  pub version : SEQUENCE-FROM ≤ versionOf bytes
+  pub good : (k : ℕ) → k < countOf bytes → AllowedMember (recordAt bytes k)
+  pub within : i < countOf bytes
+  pub fault : BeforePredecessor (recordAt bytes) i
+  pub first : (k : ℕ) → k < i → ¬ (BeforePredecessor (recordAt bytes) k)
+
+-- "The first fault in record order ends the reading, and its place is given with 4 to 8 .. The other refusals have place 0."; of 16 "place
+-- of the later one"
 pub record SurveyRefusal (bytes : List ℕ) (r : Refusal) : Type 0 where
-  pub number : In (1 ‥ 8) (r .number)
+  pub number : (In (1 ‥ 8) (r .number)) ⊎ (r .number ≡ 16)
   pub header : r .number ≤ 3 → r .place ≡ 0
   pub place : 4 ≤ r .number → In (1 ‥ countOf bytes) (r .place)
   -- what is named has the fault, and is the first that has any
-  pub header-fault : r .place ≡ 0 → HeaderFault 82 SURVEY-HEADER MOST-MEMBERS RECORD bytes (r .number)
-  pub record-fault : 0 < r .place → FirstRecord bytes (r .number) (r .place - 1)
+  pub header-fault : r .place ≡ 0 → HeaderFault 82 SURVEY-VERSIONS SURVEY-HEADER MOST-MEMBERS RECORD bytes (r .number)
+  pub record-fault : 0 < r .place → r .number ≤ 8 → FirstRecord bytes (r .number) (r .place - 1)
+  pub sequence-fault : r .number ≡ 16 → FirstOutOfSequence bytes (r .place - 1)
 
 -- a vehicle's header, class and track with no fault
 pub record Fronted (bytes : List ℕ) : Type 0 where
-  pub head : Headed 86 VEHICLE-HEADER MOST-AXLES AXLE bytes
+  pub head : Headed 86 VEHICLE-VERSIONS VEHICLE-HEADER MOST-AXLES AXLE bytes
   pub class : In classRange (classOf bytes)
   pub track : In trackRange (trackOf bytes)
 
 -- "0 for class or track, which come first"
 pub data FrontFault (bytes : List ℕ) : ℕ → Type 0 where
-  wrong-header : {n : ℕ} → HeaderFault 86 VEHICLE-HEADER MOST-AXLES AXLE bytes n → FrontFault bytes n
+  wrong-header : {n : ℕ} → HeaderFault 86 VEHICLE-VERSIONS VEHICLE-HEADER MOST-AXLES AXLE bytes n → FrontFault bytes n
   -- "7 .. class or track outside its range"
-  wrong-class-or-track : Headed 86 VEHICLE-HEADER MOST-AXLES AXLE bytes →
+  wrong-class-or-track : Headed 86 VEHICLE-VERSIONS VEHICLE-HEADER MOST-AXLES AXLE bytes →
       (¬ (In classRange (classOf bytes))) ⊎ (¬ (In trackRange (trackOf bytes))) →
       FrontFault bytes 7
 

@@ -1,5 +1,5 @@
 -- Reading a survey file, with the tests in document 01's order. 'Files': "Survey: the letters TBR, u16 version 1, u8 count
--- 1..64, then per member 16 u16".
+-- 1..64, then per member 16 u16". Version 2 and refusal 16 from document 02, request 8/13.
 use Prim.Native.Nat.{ℕ, _+_, _-_, _*_}
 use mathlib.Core.List.{List, [], _∷_, _++_}
 use mathlib.Core.Bool.{Bool, not, _&&_, _||_}
@@ -8,11 +8,12 @@ use lib.Dec.{eqb, leb}
 use Rattle.member.specs.declared.record.Member.{Member}
 use Rattle.member.specs.declared.record.Survey.{Survey}
 use Rattle.member.specs.Fields.{KIND, SPECIES, SPAN, CODE, MU-A, MU-B, FIELDS, LAST-KIND, MOST-MEMBERS, field}
-use Rattle.member.specs.Format.{_‥_, used, rangeOf, suits}
+use Rattle.member.specs.Format.{Range, _‥_, used, rangeOf, suits}
 use Rattle.files.specs.Words.{byteAt, words, each}
-use Rattle.section.specs.Choose.{all}
-use Rattle.files.specs.Reading.{_unless_, firstOf, firstFault, isIn}
-use Rattle.files.specs.Header.{headerFault}
+use Rattle.section.specs.Choose.{choose, all}
+use Rattle.files.specs.Reading.{_unless_, firstOf, firstFault, orElse, isIn}
+use Rattle.files.specs.Header.{versionOf, headerFault}
+use Rattle.files.specs.Sequence.{beforePredecessor}
 use Rattle.files.specs.declared.Reading.{Reading}
 use Rattle.files.specs.declared.Reading.the-variants.{Taken, Refused}
 use Rattle.files.specs.declared.SurveyRead.{SurveyRead}
@@ -28,9 +29,17 @@ RECORD = 32
 abbrev pub countOf : List ℕ → ℕ
 countOf bytes = byteAt bytes 5
 
+-- "u16 version 1", and version 2
+abbrev pub SURVEY-VERSIONS : Range
+SURVEY-VERSIONS = 1 ‥ 2
+
+-- "From survey version 2 the records stand by kind, then span, then spacing .. Version 1 keeps free order."
+abbrev pub SEQUENCE-FROM : ℕ
+SEQUENCE-FROM = 2
+
 -- the mark is TBR
 abbrev pub surveyHeader : List ℕ → ℕ
-surveyHeader bytes = headerFault 82 SURVEY-HEADER MOST-MEMBERS RECORD bytes
+surveyHeader bytes = headerFault 82 SURVEY-VERSIONS SURVEY-HEADER MOST-MEMBERS RECORD bytes
 
 -- the record of index i, from 0
 abbrev pub recordAt : List ℕ → ℕ → Member
@@ -74,9 +83,18 @@ memberFault m = firstOf (codeFault m ∷ fieldFault m ∷ [])
 abbrev pub recordFaults : List ℕ → ℕ → List ℕ
 recordFaults bytes n = each (λ i. memberFault (recordAt bytes i)) n
 
--- the header's fault has place 0, the records' places start at 1
+-- "16: a record before its predecessor; place of the later one"
+unfoldable pub sequenceFault : List ℕ → (i : ℕ) → ℕ
+sequenceFault bytes i = 16 unless not (beforePredecessor (recordAt bytes) i)
+
+-- of the first n records
+unfoldable pub sequenceAnswer : List ℕ → (n : ℕ) → Reading
+sequenceAnswer bytes n = choose (leb SEQUENCE-FROM (versionOf bytes)) (firstFault 1 (each (sequenceFault bytes) n)) Taken
+
+-- the header's fault has place 0, the records' places start at 1; 16 "after all records are otherwise good"
 unfoldable pub surveyAnswer : List ℕ → Reading
-surveyAnswer bytes = firstFault 0 (surveyHeader bytes ∷ recordFaults bytes (countOf bytes))
+surveyAnswer bytes =
+    orElse (firstFault 0 (surveyHeader bytes ∷ recordFaults bytes (countOf bytes))) (sequenceAnswer bytes (countOf bytes))
 
 abbrev pub blankMember : Member
 blankMember = record { fields = replicate FIELDS 0 }

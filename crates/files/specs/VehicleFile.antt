@@ -55,11 +55,15 @@ weightAt bytes i = axleField bytes i WEIGHT
 abbrev pub distanceAt : List ℕ → ℕ → ℕ
 distanceAt bytes i = axleField bytes i DISTANCE
 
+-- "u16 version 1"
+abbrev pub VEHICLE-VERSIONS : Range
+VEHICLE-VERSIONS = 1 ‥ 1
+
 -- the mark is TBV; "7 .. class or track outside its range", "0 for class or track, which come first"
 unfoldable pub vehicleHeader : List ℕ → ℕ
 vehicleHeader bytes =
     firstOf
-    (headerFault 86 VEHICLE-HEADER MOST-AXLES AXLE bytes ∷
+    (headerFault 86 VEHICLE-VERSIONS VEHICLE-HEADER MOST-AXLES AXLE bytes ∷
     7 unless (isIn classRange (classOf bytes) && isIn trackRange (trackOf bytes)) ∷
     [])
 

@@ -3,6 +3,7 @@
 mod fault;
 mod header;
 mod ranges;
+mod sequence;
 pub mod survey;
 pub mod vehicle;
 mod words;

@@ -7,6 +7,8 @@ use crate::fault::is_ordered;
 use crate::fault::is_within;
 use crate::fault::is_zeroed;
 use crate::header::header_fault;
+use crate::ranges::Limits;
+use crate::sequence::sequence_answer;
 use crate::words::wide;
 use crate::words::words;
 use member::record::FIELDS;
@@ -18,15 +20,17 @@ ghost use mathlib.Core.List.{_++_};
 ghost use Prim.Native.Nat.{_+_, _-_, _*_, _≤_, _<_};
 ghost use lib.ListN.{length, replicate};
 ghost use Rattle.files.specs.Words.{each};
-ghost use Rattle.files.specs.Reading.{firstFault};
+ghost use Rattle.files.specs.Reading.{firstFault, orElse};
 ghost use Rattle.member.specs.Fields.{MOST-MEMBERS};
-ghost use Rattle.files.specs.SurveyFile.{SURVEY-HEADER, RECORD, recordAt, recordFaults, blankMember, blankSurvey, readSurvey};
+ghost use Rattle.files.specs.SurveyFile.{SURVEY-HEADER, RECORD, recordAt, recordFaults, sequenceAnswer, blankMember, blankSurvey, readSurvey};
+
+const LAST_VERSION: u32 = 2;
 
 // The letters, the version and the count.
-const HEADER: usize = 6;
+pub const HEADER: usize = 6;
 
 // Sixteen words.
-const RECORD: usize = 32;
+pub const RECORD: usize = 32;
 
 fn record_at(bytes: &[u8], i: usize) -> Member
     requires { ⌜ SURVEY-HEADER + RECORD * (i + 1) ≤ length (now bytes) ⌝ }
@@ -69,6 +73,18 @@ fn first_fault(bytes: &[u8], count: usize) -> Reading
         i += 1;
     }
     answer
+}
+
+// The first fault of a record; where none has any, of their order from version 2 on.
+fn records_answer(bytes: &[u8], count: usize) -> Reading
+    requires { ⌜ (1 ≤ count) × (SURVEY-HEADER + RECORD * count ≤ length (now bytes)) ⌝ }
+    ensures { λ r. ⌜ r ≡ orElse (firstFault 1 (recordFaults (now (bytes .entry)) count)) (sequenceAnswer (now (bytes .entry)) count) ⌝ }
+{
+    let answer = first_fault(bytes, count);
+    match answer {
+        Reading::Taken => sequence_answer(bytes, count),
+        Reading::Refused(_) => answer,
+    }
 }
 
 fn blank_member() -> Member
@@ -117,12 +133,16 @@ fn refused(answer: Reading) -> SurveyRead
 pub fn read_survey(bytes: &[u8]) -> SurveyRead
     ensures { λ r. ⌜ r ≡ readSurvey (now (bytes .entry)) ⌝ }
 {
-    let number = header_fault(bytes, b'R', HEADER, MOST_MEMBERS as u32, RECORD);
+    let versions = Limits {
+        low: 1,
+        high: LAST_VERSION,
+    };
+    let number = header_fault(bytes, b'R', versions, HEADER, MOST_MEMBERS as u32, RECORD);
     if number != 0 {
         return refused(Reading::Refused(Refusal { number, place: 0 }));
     }
     let count = wide(bytes[5]) as usize;
-    let answer = first_fault(bytes, count);
+    let answer = records_answer(bytes, count);
     match answer {
         Reading::Taken => {
             let members = members_of(bytes, count);

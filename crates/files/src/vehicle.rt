@@ -3,6 +3,7 @@ use crate::Reading;
 use crate::Refusal;
 use crate::VehicleRead;
 use crate::header::header_fault;
+use crate::ranges::Limits;
 use crate::ranges::WEIGHT;
 use crate::ranges::axle_limits;
 use crate::ranges::inside;
@@ -36,7 +37,8 @@ const DISTANCE: usize = 1;
 fn vehicle_header(bytes: &[u8]) -> u64
     ensures { λ r. ⌜ r ≡ vehicleHeader (now (bytes .entry)) ⌝ }
 {
-    let number = header_fault(bytes, b'V', HEADER, MOST_AXLES as u32, AXLE);
+    let versions = Limits { low: 1, high: 1 };
+    let number = header_fault(bytes, b'V', versions, HEADER, MOST_AXLES as u32, AXLE);
     if number != 0 {
         return number;
     }

@@ -16,9 +16,15 @@ shared-slice-read-third c = search needs
 word-at-requires : tie.Need-word-at-requires
 word-at-requires c κs = search needs
 
+wider-requires : tie.Need-wider-requires
+wider-requires c κs = search needs
+
+inside-requires : tie.Need-inside-requires
+inside-requires c κs = search needs
+
 returns : tie.Need-returns
 unfolding marked
-returns c = rw (c .word-at .ensures)
+returns c = rw (c .inside .ensures, c .before .wider .ensures, c .before .before .word-at .ensures)
 
 pub is-marked-spec : {M : Type 1} → statement M
 is-marked-spec =
@@ -28,4 +34,6 @@ is-marked-spec =
     shared-slice-read-second
     shared-slice-read-third
     word-at-requires
+    wider-requires
+    inside-requires
     returns)

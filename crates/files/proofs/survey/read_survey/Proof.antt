@@ -1,14 +1,11 @@
--- `read_survey` meets its contract: a fault of the header is the answer, else the records' first fault is, and the survey is
+-- `read_survey` meets its contract: a fault of the header is the answer, else that of the records and their order is, and the survey is
 -- the one that belongs to the answer.
 use mathlib.Core.Path.{sym, _∙_}
 use native.Mathlib.Omega.{arith}
 use borrow.Author.Needs.{needs}
 use denote.Ref.{now}
-use Rattle.member.specs.Fields.{MOST-MEMBERS}
-use Rattle.files.specs.SurveyFile.{SURVEY-HEADER, RECORD, countOf, recordFaults, surveyAnswer}
-use Rattle.files.proofs.Headers.{headed}
-use Rattle.files.proofs.Faults.{head-first, head-clear}
-use Rattle.files.proofs.Surveys.{read-as}
+use Rattle.files.specs.SurveyFile.{countOf}
+use Rattle.files.proofs.Surveys.{headed-survey, headed-first, headed-clear, read-as}
 use Rattle.files.proofs.survey.read_survey.Statement.{statement}
 use Rattle.files.proofs.survey.read_survey.Tie as tie
 
@@ -22,14 +19,13 @@ refused-requires : tie.Need-refused-requires
 refused-requires c κs = search needs
 
 returns : tie.Need-returns
-unfolding surveyAnswer
 returns c =
     let b = now (c .before .before .before .before .args .bytes) in
-    let e = c .refused .ensures .0 ∙ sym (head-first 0 _ _ (recordFaults b (countOf b)) (sym (c .before .before .header-fault .ensures)) (c .before .if1 .taken)) in
+    let e = c .refused .ensures .0 ∙ sym (headed-first b _ (sym (c .before .before .header-fault .ensures)) (c .before .if1 .taken)) in
     read-as b (c .refused .result .answer) (c .refused .result .survey) e (rw (c .refused .ensures .0) (c .refused .ensures .1))
 
 shared-slice-read-wide : tie.Need-shared-slice-read-wide
-shared-slice-read-wide c = let h = headed 82 SURVEY-HEADER MOST-MEMBERS RECORD (now (c .before .before .before .before .args .bytes)) (omega arith) (sym (c .before .before .header-fault .ensures) ∙ c .before .if1 .left) in omega (arith, h .sized)
+shared-slice-read-wide c = let h = headed-survey (now (c .before .before .before .before .args .bytes)) (sym (c .before .before .header-fault .ensures) ∙ c .before .if1 .left) in omega (arith, h .sized)
 
 wide-requires : tie.Need-wide-requires
 wide-requires c κs = search needs
@@ -37,15 +33,15 @@ wide-requires c κs = search needs
 cast-count : tie.Need-cast-count
 cast-count c = search needs
 
-first-fault-requires : tie.Need-first-fault-requires
-first-fault-requires c κs = let h = headed 82 SURVEY-HEADER MOST-MEMBERS RECORD (now (c .before .before .before .before .before .args .bytes)) (omega arith) (sym (c .before .before .before .header-fault .ensures) ∙ c .before .before .if1 .left) in omega (arith, h .sized, c .wide .ensures .0)
+records-answer-requires : tie.Need-records-answer-requires
+records-answer-requires c κs = let h = headed-survey (now (c .before .before .before .before .before .args .bytes)) (sym (c .before .before .before .header-fault .ensures) ∙ c .before .before .if1 .left) in omega (arith, h .sized, c .wide .ensures .0)
 
 enum-told : tie.Need-enum-told
 enum-told c = search needs
 
 members-of-requires : tie.Need-members-of-requires
 members-of-requires c κs =
-    let h = headed 82 SURVEY-HEADER MOST-MEMBERS RECORD (now (c .before .before .before .before .before .before .before .before .args .bytes)) (omega arith) (sym (c .before .before .before .before .before .before .header-fault .ensures) ∙ c .before .before .before .before .before .if1 .left) in
+    let h = headed-survey (now (c .before .before .before .before .before .before .before .before .args .bytes)) (sym (c .before .before .before .before .before .before .header-fault .ensures) ∙ c .before .before .before .before .before .if1 .left) in
     let w = c .before .before .before .wide .ensures .0 in
     (omega (arith, h .count, w), omega (arith, h .sized, w))
 
@@ -56,22 +52,20 @@ refused-requires-2 : tie.Need-refused-requires-2
 refused-requires-2 c κs = search needs
 
 returns-2 : tie.Need-returns-2
-unfolding surveyAnswer
 returns-2 c =
     let w = c .before .before .before .before in
     let b = now (w .before .before .before .before .before .args .bytes) in
     let clear = sym (w .before .before .before .header-fault .ensures) ∙ w .before .before .if1 .left in
-    let e = rw (w .wide .ensures .0) at (c .before .before .before .first-fault .ensures) in
-    read-as b (c .before .before .before .first-fault .result) _ (e ∙ sym (head-clear 0 _ (recordFaults b (countOf b)) clear)) (rw (c .before .enum-told .given .1, c .members-of .ensures, w .wide .ensures .0))
+    let e = rw (w .wide .ensures .0) at (c .before .before .before .records-answer .ensures) in
+    read-as b (c .before .before .before .records-answer .result) _ (e ∙ sym (headed-clear b clear)) (rw (c .before .enum-told .given .1, c .members-of .ensures, w .wide .ensures .0))
 
 returns-3 : tie.Need-returns-3
-unfolding surveyAnswer
 returns-3 c =
     let w = c .before .before .before .before in
     let b = now (w .before .before .before .before .before .args .bytes) in
     let clear = sym (w .before .before .before .header-fault .ensures) ∙ w .before .before .if1 .left in
-    let e = rw (w .wide .ensures .0) at (c .before .before .before .first-fault .ensures) in
-    read-as b (c .refused2 .result .answer) (c .refused2 .result .survey) (c .refused2 .ensures .0 ∙ e ∙ sym (head-clear 0 _ (recordFaults b (countOf b)) clear)) (rw (c .refused2 .ensures .0, c .before .enum-told2 .given .1) (c .refused2 .ensures .1))
+    let e = rw (w .wide .ensures .0) at (c .before .before .before .records-answer .ensures) in
+    read-as b (c .refused2 .result .answer) (c .refused2 .result .survey) (c .refused2 .ensures .0 ∙ e ∙ sym (headed-clear b clear)) (rw (c .refused2 .ensures .0, c .before .enum-told2 .given .1) (c .refused2 .ensures .1))
 
 pub read-survey-spec : {M : Type 1} → statement M
 read-survey-spec =
@@ -84,7 +78,7 @@ read-survey-spec =
     shared-slice-read-wide
     wide-requires
     cast-count
-    first-fault-requires
+    records-answer-requires
     enum-told
     members-of-requires
     enum-told-2

@@ -8,7 +8,7 @@ use denote.Ref.{now}
 use Rattle.member.specs.Fields.{MOST-AXLES}
 use Rattle.member.specs.Format.{classRange, trackRange}
 use Rattle.files.specs.Reading.{isIn}
-use Rattle.files.specs.VehicleFile.{VEHICLE-HEADER, AXLE, classOf, trackOf, vehicleHeader}
+use Rattle.files.specs.VehicleFile.{VEHICLE-HEADER, AXLE, VEHICLE-VERSIONS, classOf, trackOf, vehicleHeader}
 use Rattle.files.proofs.Headers.{headed}
 use Rattle.files.proofs.vehicle.vehicle_header.Statement.{statement}
 use Rattle.files.proofs.vehicle.vehicle_header.Tie as tie
@@ -24,7 +24,7 @@ unfolding vehicleHeader
 returns c = rw (← c .before .header-fault .ensures, ne-eqb _ _ (c .if1 .taken))
 
 shared-slice-read-wide : tie.Need-shared-slice-read-wide
-shared-slice-read-wide c = let b = c .before .before in omega (arith, headed 86 VEHICLE-HEADER MOST-AXLES AXLE (now (b .before .before .args .bytes)) (omega arith) (sym (b .header-fault .ensures) ∙ c .before .if1 .left) .long)
+shared-slice-read-wide c = let b = c .before .before in omega (arith, headed 86 VEHICLE-VERSIONS VEHICLE-HEADER MOST-AXLES AXLE (now (b .before .before .args .bytes)) (omega arith) (sym (b .header-fault .ensures) ∙ c .before .if1 .left) .long)
 
 wide-requires : tie.Need-wide-requires
 wide-requires c κs = search needs
@@ -36,7 +36,7 @@ inside-requires : tie.Need-inside-requires
 inside-requires c κs = search needs
 
 word-at-requires : tie.Need-word-at-requires
-word-at-requires c κs = let b = c .before .before .before .before .before in omega (arith, headed 86 VEHICLE-HEADER MOST-AXLES AXLE (now (b .before .before .args .bytes)) (omega arith) (sym (b .header-fault .ensures) ∙ c .before .before .before .before .if1 .left) .long)
+word-at-requires c κs = let b = c .before .before .before .before .before in omega (arith, headed 86 VEHICLE-VERSIONS VEHICLE-HEADER MOST-AXLES AXLE (now (b .before .before .args .bytes)) (omega arith) (sym (b .header-fault .ensures) ∙ c .before .before .before .before .if1 .left) .long)
 
 wider-requires-2 : tie.Need-wider-requires-2
 wider-requires-2 c κs = search needs
