@@ -19,7 +19,8 @@ pub record Heavier (v v' : Vehicle) : Type 0 where
   pub weights : (i : ℕ) → i < v .axles → weight (v .weights) i ≤ weight (v' .weights) i
   pub distances : (i : ℕ) → i < v .axles → distance (v .distances) i ≡ distance (v' .distances) i
 
--- each member of the first list is matched, one to one, with a member of the second that is as worn or more
+-- Document 02, request 8/13: a "way of matching each record of the first with one of the second, no two with the same, whatever their places
+-- and versions; matched records are the shared members", and the second of two is as worn or more, all else alike
 pub record Matching (ms ms' : List Member) : Type 0 where
   pub partner : ℕ → ℕ
   pub inside : (i : ℕ) → i < length ms → partner i < length ms'
@@ -30,7 +31,7 @@ pub record Matching (ms ms' : List Member) : Type 0 where
 abbrev pub SpreadsKept : (ms ms' : List Member) (partner : ℕ → ℕ) → Type 0
 SpreadsKept ms ms' partner = (i : ℕ) → i < length ms → SpreadKept (memberAt ms i) (memberAt ms' (partner i))
 
--- "a shared member has the same place in both surveys. The second survey has at least as many members as the first"
+-- document 01's own way: "a shared member has the same place in both surveys. The second survey has at least as many members as the first"
 pub record SamePlaces (ms ms' : List Member) : Type 0 where
   pub longer : length ms ≤ length ms'
   pub worn : (i : ℕ) → i < length ms → Worn (memberAt ms i) (memberAt ms' i)

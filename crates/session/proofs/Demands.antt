@@ -11,7 +11,7 @@ use lib.IntN.{ℤ}
 use lib.ListN.{length}
 use borrow.Author.Tests.{ne-eqb, eqb-false, lt-leb}
 use Rattle.section.specs.Choose.{choose}
-use Rattle.rating.specs.Compare.{SamePlaces, Heavier}
+use Rattle.rating.specs.Compare.{Matching, SamePlaces, Heavier}
 use Rattle.member.specs.Format.{AllowedMember, AllowedVehicle, In, _‥_}
 use Rattle.member.specs.Formula.{Permitted}
 use Rattle.member.specs.PermittedLoad.{formulaOf}
@@ -46,7 +46,7 @@ use Rattle.session.specs.Answers.{Outcome, Values, WithMargin, RefusedAt
 use Rattle.session.specs.Calls.{newSession, members, stateFault, rateFault, judgeFault, loadSurvey, loadVehicle, storedSurvey, storedVehicle, unlessFault, rate, judge, judgeList, loadFiles, thenJudge, judgeFiles}
 use Rattle.session.specs.Demands.{Demand1, Demand2, Demand3}
 use Rattle.session.specs.Parts.{FromState, RefusedBoth, Answers, FilesAnswered, Covers, Falls}
-use Rattle.session.specs.History.{Holds, after}
+use Rattle.session.specs.History.{Call, TakenLast, Holds, after}
 use Rattle.session.specs.YardCall.{no-survey}
 use Rattle.session.specs.declared.Session.{Session}
 use Rattle.session.proofs.History.{survey-stays, vehicle-stays, survey-last, last-held, in-turn, in-reverse, calls-valid}
@@ -245,19 +245,29 @@ covered {m} a v =
           (greatest-given (weight (v .weights)) (behind (v .distances)) (v .axles) (line-sized a .triangle));
     }
 
-falls : (s s' : Session) (survey vehicle survey' vehicle' : List ℕ) → Holds s survey vehicle → Holds s' survey' vehicle' → SamePlaces (members s) (members s') → Heavier (s .vehicle) (s' .vehicle) → Falls s s'
-unfolding same-places
-falls s s' survey vehicle survey' vehicle' h h' p v =
-    let a = held-members h in
-    let a' = held-members h' in
-    let more : (i : ℕ) → i < length (members s) → i < length (members s') = λ i l. omega (arith, p .longer) in
-    record {
-      permitted = λ i l. permitted-falls v (a i l) (a' i (more i l)) (p .worn i l);
-      vehicle-load = λ i l. vehicle-load-rises v (a i l) (a' i (more i l)) (p .worn i l);
-      figure = λ k. figure-falls v a a' (same-places p) k (rw (members-counted (held-survey h)) (held-survey h .count .0));
-      member-verdict = λ i l. member-stays-refused v (a i l) (a' i (more i l)) (p .worn i l);
-      bridge-verdict = bridge-stays-refused v a a' (same-places p);
-    }
+-- for any way of matching: a member's load and verdict by the member's laws, the bridge's by those of matched members
+module _ (s s' : Session) (survey vehicle survey' vehicle' : List ℕ) (h : Holds s survey vehicle) (h' : Holds s' survey' vehicle') where
+  falls : (way : Matching (members s) (members s')) → Heavier (s .vehicle) (s' .vehicle) → Falls s s' (way .partner)
+  falls way v =
+      let a = held-members h in
+      let a' : (i : ℕ) → i < length (members s) → AllowedMember (memberAt (members s') (way .partner i)) = λ i l. held-members h' (way .partner i) (way .inside i l) in
+      record {
+        permitted = λ i l. permitted-falls v (a i l) (a' i l) (way .worn i l);
+        vehicle-load = λ i l. vehicle-load-rises v (a i l) (a' i l) (way .worn i l);
+        figure = λ k. figure-falls v a (held-members h') way k (rw (members-counted (held-survey h)) (held-survey h .count .0));
+        member-verdict = λ i l. member-stays-refused v (a i l) (a' i l) (way .worn i l);
+        bridge-verdict = bridge-stays-refused v a (held-members h') way;
+      }
+
+  -- the same place in both is one way
+  falls-in-place : SamePlaces (members s) (members s') → Heavier (s .vehicle) (s' .vehicle) → Falls s s' (λ i. i)
+  unfolding same-places
+  falls-in-place p = falls (same-places p)
+
+-- a way of matching lists that are these
+unfoldable same-way : {ms ms' ns ns' : List Member} → ms ≡ ns → ms' ≡ ns' → Matching ns ns' → Matching ms ms'
+same-way e e' way =
+    record { partner = way .partner; inside = rw (e, e') (way .inside); one-to-one = rw e (way .one-to-one); worn = rw (e, e') (way .worn) }
 
 -- where the place, or the list, is wrong
 place-refused : (s : Session) (place : ℕ) → 0 < s .survey .count → 0 < s .vehicle .axles → ¬ (In (1 ‥ s .survey .count) place) → rate s place .answer ≡ RefusedAt 13 0
@@ -289,6 +299,21 @@ files-answered s survey vehicle h =
       vehicle-load = λ i l. rw (← at i l, ← v) (covered (held-members h i (within i l)) (s .vehicle));
     }
 
+-- after two rows of calls, for any way of matching the files' records
+module _ (s s' : Session) (calls calls' : List Call) (survey vehicle survey' vehicle' : List ℕ) (l : TakenLast s calls survey vehicle) (l' : TakenLast s' calls' survey' vehicle') where
+  falls-after : (way : Matching (recordsOf survey) (recordsOf survey')) → Heavier (vehicleOf vehicle) (vehicleOf vehicle') → Falls (after s calls) (after s' calls') (way .partner)
+  unfolding same-way
+  falls-after way v =
+      let h = last-held s calls survey vehicle l in
+      let h' = last-held s' calls' survey' vehicle' l' in
+      let f = held-files h in
+      let f' = held-files h' in
+      falls (after s calls) (after s' calls') survey vehicle survey' vehicle' h h' (same-way (f .0) (f' .0) way) (rw (f .2, f' .2) v)
+
+  falls-in-place-after : SamePlaces (recordsOf survey) (recordsOf survey') → Heavier (vehicleOf vehicle) (vehicleOf vehicle') → Falls (after s calls) (after s' calls') (λ i. i)
+  unfolding same-places
+  falls-in-place-after p = falls-after (same-places p)
+
 pub demand3 : Demand3
 demand3 =
     record {
@@ -296,15 +321,12 @@ demand3 =
       permitted-load = λ s survey vehicle h i l. permitted-load-exact (held-members h i l) (s .vehicle .class) (s .vehicle .track .0);
       vehicle-load = λ s survey vehicle h i l. covered (held-members h i l) (s .vehicle);
       falling = falls;
+      falling-in-place = falls-in-place;
       held = last-held;
       held-in-turn = λ survey vehicle a b. in-turn a b;
       held-in-reverse = λ survey vehicle a b. in-reverse a b;
       answered = λ s calls survey vehicle l. files-answered (after s calls) survey vehicle (last-held s calls survey vehicle l);
-      falling-after = λ s s' calls calls' survey vehicle survey' vehicle' l l' p v.
-          let h = last-held s calls survey vehicle l in
-          let h' = last-held s' calls' survey' vehicle' l' in
-          let f = held-files h in
-          let f' = held-files h' in
-          falls (after s calls) (after s' calls') survey vehicle survey' vehicle' h h' (rw (f .0, f' .0) p) (rw (f .2, f' .2) v);
+      falling-after = falls-after;
+      falling-in-place-after = falls-in-place-after;
       between = between-bounds;
     }

@@ -5,7 +5,7 @@ use mathlib.Core.Path.{_≡_}
 use mathlib.Core.List.{List, [], _∷_}
 use mathlib.Core.Logic.{_⊎_, _↔_}
 use lib.ListN.{length}
-use Rattle.rating.specs.Compare.{SamePlaces, Heavier}
+use Rattle.rating.specs.Compare.{Matching, SamePlaces, Heavier}
 use Rattle.member.specs.Format.{In, _‥_}
 use Rattle.member.specs.Formula.{Permitted}
 use Rattle.rating.specs.Judgement.{judgementOf}
@@ -102,13 +102,20 @@ pub record Demand3 : Type 0 where
   pub vehicle-load : (s : Session) (survey vehicle : List ℕ) → Holds s survey vehicle → (i : ℕ) → i < length (members s) →
       Covers (memberAt (members s) i) (s .vehicle) (vehicleLoadAt s i)
   -- "For any two accepted surveys, each with an accepted vehicle, the second with each rot, lost area, dead load and axle weight as great
-  -- or greater, members added at the end, axles added behind, all else alike". Document 02, request 2/13: "what demand 3 says of the
+  -- or greater, members added .., axles added behind, all else alike". Document 02, request 8/13: "An added member may now stand anywhere the
+  -- order puts it, and the claim about two surveys holds for every way of matching each record of the first with one of the second, no two
+  -- with the same, whatever their places and versions; matched records are the shared members." Request 2/13: "what demand 3 says of the
   -- permitted loads, figure and verdicts of two surveys now has one more premise: a kind 7 record has the same rot in both surveys, deck rot
   -- included. All else of the claim stands." `Falls` has the premise where it is asked
   pub falling : (s s' : Session) (survey vehicle survey' vehicle' : List ℕ) → Holds s survey vehicle → Holds s' survey' vehicle' →
+      (way : Matching (members s) (members s')) →
+      Heavier (s .vehicle) (s' .vehicle) →
+      Falls s s' (way .partner)
+  -- so of document 01's shared members: the same place in both surveys, "members added at the end"
+  pub falling-in-place : (s s' : Session) (survey vehicle survey' vehicle' : List ℕ) → Holds s survey vehicle → Holds s' survey' vehicle' →
       SamePlaces (members s) (members s') →
       Heavier (s .vehicle) (s' .vehicle) →
-      Falls s s'
+      Falls s s' (λ i. i)
   -- The premise is met by calls alone: after any row of calls, whatever was held before it, whatever among them was refused, rated or
   -- judged, the session holds the files that were taken last
   pub held : (s : Session) (calls : List Call) (survey vehicle : List ℕ) → TakenLast s calls survey vehicle →
@@ -121,12 +128,19 @@ pub record Demand3 : Type 0 where
   -- what is answered and written there, and what is said above of these figures
   pub answered : (s : Session) (calls : List Call) (survey vehicle : List ℕ) → TakenLast s calls survey vehicle →
       FilesAnswered (after s calls) survey vehicle
-  -- and of two rows of calls
+  -- and of two rows of calls, for every way of matching the files' records
   pub falling-after : (s s' : Session) (calls calls' : List Call) (survey vehicle survey' vehicle' : List ℕ) →
+      TakenLast s calls survey vehicle →
+      TakenLast s' calls' survey' vehicle' →
+      (way : Matching (recordsOf survey) (recordsOf survey')) →
+      Heavier (vehicleOf vehicle) (vehicleOf vehicle') →
+      Falls (after s calls) (after s' calls') (way .partner)
+  -- so of records at the same places
+  pub falling-in-place-after : (s s' : Session) (calls calls' : List Call) (survey vehicle survey' vehicle' : List ℕ) →
       TakenLast s calls survey vehicle →
       TakenLast s' calls' survey' vehicle' →
       SamePlaces (recordsOf survey) (recordsOf survey') →
       Heavier (vehicleOf vehicle) (vehicleOf vehicle') →
-      Falls (after s calls) (after s' calls')
+      Falls (after s calls) (after s' calls') (λ i. i)
   -- document 02, request 5/13: "Every survey between the two, field by field, must have its figures within those bounds"
   pub between : (s : Session) (first second list : List ℕ) (b : Between) → Gives s first second list b → BetweenBounds s first second list b

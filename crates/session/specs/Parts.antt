@@ -116,20 +116,22 @@ pub record FilesAnswered (s : Session) (survey vehicle : List ℕ) : Type 0 wher
   pub vehicle-load : (i : ℕ) → i < countOf survey →
       Covers (recordAt survey i) (vehicleOf vehicle) (vehicleLoadOn (recordAt survey i) (vehicleOf vehicle))
 
--- of two sessions, "a kind 7 record has the same rot in both surveys, deck rot included": of the member of index i, and of every shared
--- member
-abbrev pub SameRotAt : (s s' : Session) (i : ℕ) → Type 0
-SameRotAt s s' i = SpreadKept (memberAt (members s) i) (memberAt (members s') i)
+-- Of two sessions and a way of matching their members, document 02, request 8/13: "matched records are the shared members". The member of
+-- index i in the first survey has the index `partner i` in the second.
+module _ (s s' : Session) (partner : ℕ → ℕ) where
+  -- "a kind 7 record has the same rot in both surveys, deck rot included": of that member, and of every shared member
+  abbrev pub SameRotAt : (i : ℕ) → Type 0
+  SameRotAt i = SpreadKept (memberAt (members s) i) (memberAt (members s') (partner i))
 
-abbrev pub SameRot : (s s' : Session) → Type 0
-SameRot s s' = SpreadsKept (members s) (members s') (λ i. i)
+  abbrev pub SameRot : Type 0
+  SameRot = SpreadsKept (members s) (members s') partner
 
--- of two sessions: "the permitted load of a shared member never rises, its vehicle load never falls, the bridge's figure never rises,
--- and no verdict, of a shared member or the bridge, turns from refuse to pass". The premise of the same rot is asked of permitted loads,
--- figure and verdicts: of a member's own load and verdict for that member alone. The pair in member/specs/Wear.antt shows that it is needed
-pub record Falls (s s' : Session) : Type 0 where
-  pub permitted : (i : ℕ) → i < length (members s) → SameRotAt s s' i → permittedAt s' i ≤ permittedAt s i
-  pub vehicle-load : (i : ℕ) → i < length (members s) → vehicleLoadAt s i ≤ vehicleLoadAt s' i
-  pub figure : SameRot s s' → judgementIn s' .figure .0 ≤ judgementIn s .figure .0
-  pub member-verdict : (i : ℕ) → i < length (members s) → SameRotAt s s' i → ratingAt s i .verdict ≡ Refuse → ratingAt s' i .verdict ≡ Refuse
-  pub bridge-verdict : SameRot s s' → judgementIn s .verdict ≡ Refuse → judgementIn s' .verdict ≡ Refuse
+  -- "the permitted load of a shared member never rises, its vehicle load never falls, the bridge's figure never rises, and no verdict, of a
+  -- shared member or the bridge, turns from refuse to pass". The premise of the same rot is asked of permitted loads, figure and verdicts: of
+  -- a member's own load and verdict for that member alone. The pair in member/specs/Wear.antt shows that it is needed
+  pub record Falls : Type 0 where
+    pub permitted : (i : ℕ) → i < length (members s) → SameRotAt i → permittedAt s' (partner i) ≤ permittedAt s i
+    pub vehicle-load : (i : ℕ) → i < length (members s) → vehicleLoadAt s i ≤ vehicleLoadAt s' (partner i)
+    pub figure : SameRot → judgementIn s' .figure .0 ≤ judgementIn s .figure .0
+    pub member-verdict : (i : ℕ) → i < length (members s) → SameRotAt i → ratingAt s i .verdict ≡ Refuse → ratingAt s' (partner i) .verdict ≡ Refuse
+    pub bridge-verdict : SameRot → judgementIn s .verdict ≡ Refuse → judgementIn s' .verdict ≡ Refuse
