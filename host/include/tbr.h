@@ -8,6 +8,8 @@
  * never NULL, also where the number is 0, and a pointer to uint64_t is aligned for one. The list
  * overlaps neither file. The functions read the files, write inside the list only, keep no
  * pointer, always return, and share no state: any number of threads may call them.
+ *
+ * A survey file is of version 1 or 2, a vehicle file of version 1.
  */
 #ifndef TBR_H
 #define TBR_H
@@ -26,7 +28,8 @@ extern "C" {
  * Where a file is refused, refusal is its number and place its member or axle, 0 where the fault is
  * in none, and the rest is 0; the survey's refusal comes before the vehicle's:
  *   1 length, 2 mark or version, 3 count, 4 kind, 5 species, 6 section code, 7 a number outside its
- *   range, 8 an unused field that is not 0.
+ *   range, 8 an unused field that is not 0, 16 a member before its predecessor in a survey of
+ *   version 2, where members stand by kind, then l, then d, each rising.
  * Else refusal and place are 0.
  */
 struct tbr_numbers {

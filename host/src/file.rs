@@ -1,6 +1,7 @@
 //! The files' layout: words of records to bytes and back, and vehicles joined to a yard. Nothing is
 //! checked here; the proved library says which files are taken.
 
+use crate::form::FIRST_VERSION;
 use crate::refusal::Which;
 
 /// The sixteen words of a member: kind, species, l, d, x, h, q, section code, s1 to s6, A, B.
@@ -8,6 +9,15 @@ pub type Member = [u16; 16];
 
 /// Weight and distance of an axle.
 pub type Axle = [u16; 2];
+
+/// A survey's numbers.
+#[derive(Clone, Debug, PartialEq, Eq)]
+pub struct Survey {
+    /// 1, or 2 where the members stand in one order.
+    pub version: u16,
+    /// The members of a bridge, by place.
+    pub members: Vec<Member>,
+}
 
 /// A vehicle's numbers.
 #[derive(Clone, Debug, PartialEq, Eq)]
@@ -21,8 +31,8 @@ pub struct Vehicle {
 /// What a file holds.
 #[derive(Clone, Debug, PartialEq, Eq)]
 pub enum Contents {
-    /// The members of a bridge.
-    Survey(Vec<Member>),
+    /// A survey.
+    Survey(Survey),
     /// A vehicle.
     Vehicle(Vehicle),
 }
@@ -47,6 +57,13 @@ fn records<const N: usize>(bytes: &[u8], header: usize) -> Vec<[u16; N]> {
 /// is shorter than its header.
 pub fn members(survey: &[u8]) -> Vec<Member> {
     records(survey, SURVEY_HEADER)
+}
+
+/// The survey that stands in the bytes of a survey file, whatever its version and count say; None
+/// where it is shorter than its header.
+pub fn survey(bytes: &[u8]) -> Option<Survey> {
+    let [_, _, _, version @ .., _] = bytes.first_chunk::<SURVEY_HEADER>()?;
+    Some(Survey { version: u16::from_le_bytes(*version), members: members(bytes) })
 }
 
 /// The vehicle that stands in the bytes of a vehicle file, whatever its counts say; None where it
@@ -92,22 +109,29 @@ impl Contents {
         }
     }
 
+    /// The version that is written.
+    pub fn version(&self) -> u16 {
+        match self {
+            Contents::Survey(survey) => survey.version,
+            Contents::Vehicle(_) => FIRST_VERSION,
+        }
+    }
+
     /// The number of members or axles.
     pub fn count(&self) -> usize {
         match self {
-            Contents::Survey(members) => members.len(),
+            Contents::Survey(survey) => survey.members.len(),
             Contents::Vehicle(vehicle) => vehicle.axles.len(),
         }
     }
 
     /// The file's bytes; None where its count or class is above what a byte holds.
     pub fn bytes(&self) -> Option<Vec<u8>> {
-        let layout = self.which().layout();
         let count = u8::try_from(self.count()).ok()?;
-        let mut bytes = layout.mark.to_vec();
-        push_words(&mut bytes, &[layout.version]);
+        let mut bytes = self.which().layout().mark.to_vec();
+        push_words(&mut bytes, &[self.version()]);
         match self {
-            Contents::Survey(members) => {
+            Contents::Survey(Survey { members, .. }) => {
                 bytes.push(count);
                 push_words(&mut bytes, members.iter().flatten());
             }

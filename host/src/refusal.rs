@@ -1,7 +1,7 @@
 //! A refused file, and every refusal number in words.
 
 use crate::file::MOST_VEHICLES;
-use crate::form::{Layout, ALL_SPECIES, KINDS};
+use crate::form::{Layout, ALL_SPECIES, FIRST_VERSION, KINDS, ORDER, ORDERED_FROM};
 use std::fmt;
 
 /// Which of the two files.
@@ -29,7 +29,8 @@ pub struct Refusal {
     pub file: Which,
     /// The number: 1 length, 2 mark or version, 3 count, 4 kind, 5 species, 6 section code,
     /// 7 a number outside its range, 8 an unused field that is not 0; 15 the second of two surveys
-    /// that is not the first worn as much or more.
+    /// that is not the first worn as much or more; 16 a member that stands before its predecessor in
+    /// the order of version 2.
     pub number: u64,
     /// The member or axle at fault, from 1; 0 where the fault is in none of them.
     pub place: u64,
@@ -54,19 +55,33 @@ impl Refusal {
 
     /// What the number means for this file, in words.
     pub fn meaning(&self) -> String {
-        let Layout { mark, version, record, most } = self.file.layout();
+        let Layout { mark, last_version, record, most } = self.file.layout();
         match (self.number, self.file) {
-            (1, _) => "its length is not what its count says, or it is too short to hold a count",
             (2, _) => {
                 let mark = String::from_utf8_lossy(*mark);
-                return format!("it does not begin with the letters {mark} and version {version}");
+                let versions = FIRST_VERSION..=*last_version;
+                let versions: Vec<String> = versions.map(|version| version.to_string()).collect();
+                let versions = versions.join(" or ");
+                format!("it does not begin with the letters {mark} and version {versions}")
             }
-            (3, _) => return format!("its count of {record}s is not 1 to {most}"),
-            (4, _) => return format!("the kind is not 1 to {}", KINDS.len()),
+            (3, _) => format!("its count of {record}s is not 1 to {most}"),
+            (4, _) => format!("the kind is not 1 to {}", KINDS.len()),
             (5, _) => {
                 let last = ALL_SPECIES.iter().map(|(_, number)| number).max().unwrap_or(&0);
-                return format!("the species is not 1 to {last}");
+                format!("the species is not 1 to {last}")
             }
+            (16, Which::Survey) => format!(
+                "it comes before its predecessor, and from version {ORDERED_FROM} members stand \
+                 {ORDER}"
+            ),
+            _ => self.fixed_meaning().to_string(),
+        }
+    }
+
+    /// The same of the numbers whose words name nothing of the tables.
+    fn fixed_meaning(&self) -> &'static str {
+        match (self.number, self.file) {
+            (1, _) => "its length is not what its count says, or it is too short to hold a count",
             (6, _) => "the section code does not suit the kind",
             (7, Which::Survey) => "a number is outside its range, or A of a joint is above B",
             (7, Which::Vehicle) if self.place == 0 => "the class or the track is outside its range",
@@ -86,7 +101,6 @@ impl Refusal {
             }
             _ => NO_WORDS,
         }
-        .to_string()
     }
 }
 

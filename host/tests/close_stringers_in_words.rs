@@ -19,7 +19,7 @@ fn member(text: &str) -> [u16; 16] {
     assert_eq!(write(&contents).unwrap(), text);
     assert!(reader::survey(&contents.bytes().unwrap()).is_ok(), "{text}");
     match contents {
-        Contents::Survey(members) => members[0],
+        Contents::Survey(survey) => survey.members[0],
         Contents::Vehicle(_) => panic!("{text}"),
     }
 }

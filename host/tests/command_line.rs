@@ -4,7 +4,7 @@ mod cli;
 
 use cli::{answer, run, sample, tbr, text, Folder};
 use std::path::Path;
-use tbr::form::{Field, Value, AXLE, HEADING, KINDS, SECTIONS};
+use tbr::form::{Field, Value, AXLE, HEADING, KINDS, ORDER, SECTIONS, VERSION};
 
 #[test]
 fn a_bridge_that_passes() {
@@ -181,6 +181,51 @@ fn the_field_of_a_close_stringer_at_fault_is_named() {
     }
 }
 
+/// A bridge of version 2 whose second member comes before its first: the file is refused, and of
+/// its text form the line is named. In version 1 both are taken.
+#[test]
+fn members_out_of_order() {
+    let folder = Folder::new("out-of-order");
+    let form = text("forest-road.txt").replace("survey\n", "survey, version 2\n");
+    let form = folder.file("wrong.txt", form);
+    let mut survey = sample("forest-road.tbr");
+    survey[3] = 2;
+    let file = folder.file("wrong.tbr", survey);
+    let text_fault = format!("tbr: {form}: line 7, span: 300 cm is below the 500 cm of line 5; ");
+    let refused = format!(
+        "tbr: {file}: survey refused, number 16 at member 2: span (l): 300 cm is below the 500 cm \
+         of member 1; "
+    );
+    let new = folder.path("new.tbr");
+    for (words, expected) in [
+        (&["judge", &file, "lorry.tbv"][..], &refused),
+        (&["show", &file], &refused),
+        (&["make", "--back", &file], &refused),
+        (&["yard", &file, "yard.tby"], &refused),
+        (&["judge", &form, "lorry.tbv"], &text_fault),
+        (&["make", &form, &new], &text_fault),
+    ] {
+        let (status, out, error) = run(words);
+        assert_eq!((status, out.as_str()), (2, ""), "{words:?}");
+        let said = format!("{expected}from version 2 members stand {ORDER}\n");
+        assert!(error.starts_with(&said), "{words:?}: {error}");
+    }
+    assert_eq!(folder.names(), ["wrong.tbr", "wrong.txt"]);
+    assert_eq!(run(&["judge", "forest-road.txt", "lorry.tbv"]).0, 0);
+}
+
+/// The same answers from the file and from its text form.
+#[test]
+fn a_bridge_of_version_2() {
+    let (status, table, error) = run(&["judge", "ordered.tbr", "lorry.tbv"]);
+    assert_eq!((status, error.as_str()), (0, ""));
+    let figure = "\nfigure     3062 kgf/m\ngoverning  member 2, stringer\n";
+    assert!(table.contains(figure), "{table}");
+    assert_eq!(run(&["judge", "ordered.txt", "lorry.txt"]), (status, table, error));
+    let (_, form, _) = run(&["make", "--back", "ordered.tbr"]);
+    assert!(form.starts_with("survey, version 2\nstringer, "), "{form}");
+}
+
 #[test]
 fn files_in_the_wrong_order_get_a_hint() {
     let order = "the order is: tbr judge SURVEY VEHICLE..\n";
@@ -296,7 +341,7 @@ fn the_status_of_several_vehicles() {
 fn show_names_everything() {
     let (status, text, _) = run(&["show", "case-a.tbr"]);
     let expected = "\
-case-a.tbr: survey of 1 member
+case-a.tbr: survey of 1 member, version 1
   1  stringer: species pine, span 500 cm, spacing 140 cm, dead load 100 kgf/m
      section log: diameter 28 cm, rot 0 cm, tiers 1
 ";
@@ -322,14 +367,19 @@ lorry.tbv: vehicle of 2 axles
 
 #[test]
 fn make_goes_there_and_back() {
-    for (survey, members) in
-        [("forest-road.tbr", 7), ("crescent.tbr", 3), ("close-stringers.tbr", 3)]
-    {
+    for (survey, members, version) in [
+        ("forest-road.tbr", 7, 1),
+        ("crescent.tbr", 3, 1),
+        ("close-stringers.tbr", 3, 1),
+        ("ordered.tbr", 8, 2),
+    ] {
         let folder = Folder::new("make");
         let (text, file) = (folder.path("bridge.txt"), folder.path("bridge.tbr"));
         assert_eq!(run(&["make", "--back", survey, &text]).0, 0);
         let (status, said, _) = run(&["make", &text, &file]);
-        assert_eq!((status, said), (0, format!("{file}: survey of {members} members\n")));
+        let summary = format!("survey of {members} members, version {version}");
+        assert_eq!((status, said), (0, format!("{file}: {summary}\n")));
+        assert!(run(&["show", &file]).1.starts_with(&format!("{file}: {summary}\n")));
         assert_eq!(std::fs::read(&file).unwrap(), sample(survey));
         let (_, printed, _) = run(&["make", "--back", survey]);
         assert_eq!(printed, std::fs::read_to_string(&text).unwrap());
@@ -380,7 +430,7 @@ fn the_page_on_the_text_form_is_whole() {
         has(&format!("section {}, ", section.name));
         section.fields.iter().for_each(field);
     }
-    HEADING.iter().chain(&AXLE).for_each(field);
+    HEADING.iter().chain(&AXLE).chain([&VERSION]).for_each(field);
 }
 
 /// One line, and it says where help is.

@@ -148,6 +148,31 @@ fn json_of_refused_files() {
     assert!(is_json(&printed) && printed.contains("\"hint\": \"lorry.tbv is a vehicle"));
 }
 
+/// Refusal 16 with its number, place and field.
+#[test]
+fn a_survey_out_of_order() {
+    let folder = Folder::new("out-of-order-for-programs");
+    let mut survey = sample("forest-road.tbr");
+    survey[3] = 2;
+    let survey = folder.file("wrong.tbr", survey);
+    let problem = "300 cm is below the 500 cm of member 1; from version 2 members stand by kind, \
+                   then span or truss spacing, then spacing";
+    let message = format!("survey refused, number 16 at member 2: span (l): {problem}");
+    let (status, printed, error) = run(&["judge", "--json", &survey, "lorry.tbv"]);
+    assert_eq!((status, error.as_str()), (2, ""));
+    let expected = format!(
+        "{{\"survey\": \"{survey}\", \"error\": {{\"file\": \"{survey}\", \"status\": 2, \
+        \"number\": 16, \"place\": 2, \"faults\": [{{\"line\": null, \"field\": \"span (l)\", \
+        \"problem\": \"{problem}\"}}], \"message\": \"{message}\", \"hint\": null}}, \
+        \"judgements\": []}}\n"
+    );
+    assert_eq!(printed, expected);
+    let (status, printed, error) = run(&["judge", "--csv", &survey, "lorry.tbv"]);
+    assert_eq!((status, error.as_str()), (2, ""));
+    let line = format!("{survey},lorry.tbv,error,,,,,{survey},16,2,\"{message}\"\n");
+    assert_eq!(printed, format!("{COLUMNS}{line}"));
+}
+
 /// Valid for any file name.
 #[test]
 fn json_and_csv_of_strange_names() {
@@ -206,7 +231,7 @@ fn csv_of_refused_files() {
     let (status, printed, _) = run(&["judge", "--csv", "lorry.tbv", "case-l.tbv", "lorry.tbv"]);
     assert_eq!(status, 2);
     let message =
-        "\"survey refused, number 2: it does not begin with the letters TBR and version 1\"";
+        "\"survey refused, number 2: it does not begin with the letters TBR and version 1 or 2\"";
     let line = |vehicle| format!("lorry.tbv,{vehicle},error,,,,,lorry.tbv,2,0,{message}\n");
     let expected = format!("{COLUMNS}{}{}", line("case-l.tbv"), line("lorry.tbv"));
     assert_eq!(printed, expected);

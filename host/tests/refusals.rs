@@ -44,6 +44,10 @@ fn each_number_of_a_survey() {
     assert_eq!(survey_refusal(&[]), (1, 0));
     assert_eq!(survey_refusal(&SURVEY[..37]), (1, 0));
     assert_eq!(survey_refusal(VEHICLE), (2, 0));
+    for version in [0, 3] {
+        assert_eq!(survey_refusal(&changed(SURVEY, 3, version)), (2, 0));
+    }
+    assert_eq!(check_survey(&changed(SURVEY, 3, 2)), Ok(()));
     assert_eq!(survey_refusal(&changed(SURVEY, 5, 65)), (3, 0));
     let [kind, species, section, rot, unused] = [6, 8, 20, 24, 14];
     assert_eq!(survey_refusal(&changed(SURVEY, kind, 8)), (4, 1));
@@ -51,6 +55,8 @@ fn each_number_of_a_survey() {
     assert_eq!(survey_refusal(&changed(SURVEY, section, 3)), (6, 1));
     assert_eq!(survey_refusal(&changed(SURVEY, rot, 61)), (7, 1));
     assert_eq!(survey_refusal(&changed(SURVEY, unused, 1)), (8, 1));
+    // Stringers of 500 cm, then of 300 cm.
+    assert_eq!(survey_refusal(&changed(FOREST_ROAD, 3, 2)), (16, 2));
 }
 
 #[test]
@@ -58,6 +64,9 @@ fn each_number_of_a_vehicle() {
     assert_eq!(vehicle_refusal(&[]), (1, 0));
     assert_eq!(vehicle_refusal(&VEHICLE[..16]), (1, 0));
     assert_eq!(vehicle_refusal(SURVEY), (2, 0));
+    for version in [0, 2] {
+        assert_eq!(vehicle_refusal(&changed(VEHICLE, 3, version)), (2, 0));
+    }
     assert_eq!(vehicle_refusal(&changed(VEHICLE, 8, 0)), (3, 0));
     let [class, track, first_distance] = [5, 6, 11];
     assert_eq!(vehicle_refusal(&changed(VEHICLE, class, 2)), (7, 0));
@@ -85,12 +94,20 @@ fn slices_of_slices() {
 
 #[test]
 fn all_numbers_have_words_of_their_own() {
-    for file in [Which::Survey, Which::Vehicle] {
-        let meaning = |number, place| Refusal { file, number, place }.meaning();
-        let mut words: Vec<String> = (1..=9).map(|number| meaning(number, 1)).collect();
+    for (file, further) in [(Which::Survey, &[15, 16][..]), (Which::Vehicle, &[])] {
+        let numbers: Vec<u64> = (1..=9).chain(further.iter().copied()).collect();
+        let meaning = |number: &u64| Refusal { file, number: *number, place: 1 }.meaning();
+        let mut words: Vec<String> = numbers.iter().map(meaning).collect();
         words.sort_unstable();
         words.dedup();
-        assert_eq!(words.len(), 9, "{words:?}");
+        assert_eq!(words.len(), numbers.len(), "{words:?}");
+    }
+    for (file, opening) in
+        [(Which::Survey, "TBR and version 1 or 2"), (Which::Vehicle, "TBV and version 1")]
+    {
+        let words =
+            format!("{file} refused, number 2: it does not begin with the letters {opening}");
+        assert_eq!(Refusal { file, number: 2, place: 0 }.to_string(), words);
     }
     let refusal = Refusal { file: Which::Survey, number: 4, place: 3 };
     assert_eq!(refusal.to_string(), "survey refused, number 4 at member 3: the kind is not 1 to 7");
@@ -111,6 +128,8 @@ fn two_surveys_that_are_not_of_one_bridge() {
     assert_eq!(refusal(Which::Survey, 3).to_string(), words);
     let no_words = Refusal { file: Which::Vehicle, number: 9, place: 0 }.meaning();
     assert_eq!(refusal(Which::Vehicle, 0).meaning(), no_words, "a vehicle has no 15");
+    let out_of_order = Refusal { file: Which::Vehicle, number: 16, place: 1 };
+    assert_eq!(out_of_order.meaning(), no_words, "nor has it 16");
     // No field of the record alone is at fault.
     assert_eq!(explain(FOREST_ROAD, &refusal(Which::Survey, 3)), []);
 }
@@ -246,7 +265,7 @@ fn fields_of_a_vehicle_at_fault() {
 #[test]
 fn every_refused_record_has_a_field_at_fault() {
     let mut random = Random::new(common::seed(0xf1e1d));
-    let mut seen = [0; 9];
+    let mut seen = [0; 17];
     for i in 0..50_000 {
         let (survey, vehicle) = some_damage(&mut random);
         for (bytes, answer) in
@@ -258,14 +277,14 @@ fn every_refused_record_has_a_field_at_fault() {
             seen[usize::try_from(refusal.number).unwrap()] += 1;
         }
     }
-    assert!(seen[1..].iter().all(|count| *count > 20), "{seen:?}");
+    assert!(seen[1..=8].iter().all(|count| *count > 20), "{seen:?}");
 }
 
 /// A refusal of other bytes, or with a place or number that cannot be, names nothing.
 #[test]
 fn refusals_of_other_bytes_name_nothing() {
     for file in [Which::Survey, Which::Vehicle] {
-        for number in [0, 1, 3, 4, 7, 8, 9, 15, u64::MAX] {
+        for number in [0, 1, 3, 4, 7, 8, 9, 15, 16, u64::MAX] {
             for place in [0, 1, 2, 65, u64::MAX] {
                 let refusal = Refusal { file, number, place };
                 assert_eq!(explain(&[], &refusal), []);
@@ -315,8 +334,11 @@ fn hold_total(bytes: &[u8]) {
             }
         }
     }
-    let survey = file::Contents::Survey(members);
-    let _ = (write(&survey), survey.bytes(), survey.count());
+    if let Some(survey) = file::survey(bytes) {
+        assert_eq!(survey.members, members);
+        let contents = file::Contents::Survey(survey);
+        let _ = (write(&contents), contents.bytes(), contents.count());
+    }
     if let Some(vehicle) = file::vehicle(bytes) {
         let _ = (clause(&HEADING[0], &vehicle.heading), clause(&AXLE[1], &[]));
         let contents = file::Contents::Vehicle(vehicle);
@@ -327,8 +349,9 @@ fn hold_total(bytes: &[u8]) {
 /// A file's count and class are a byte each.
 #[test]
 fn what_a_file_cannot_hold_has_no_bytes() {
-    use tbr::file::{Contents, Vehicle};
-    let survey = |count| Contents::Survey(vec![[0; 16]; count]).bytes();
+    use tbr::file::{Contents, Survey, Vehicle};
+    let survey =
+        |count| Contents::Survey(Survey { version: 1, members: vec![[0; 16]; count] }).bytes();
     assert_eq!(survey(255).map(|bytes| bytes.len()), Some(6 + 32 * 255));
     assert_eq!((survey(256), survey(257), survey(512)), (None, None, None));
     let vehicle = |class, count| {
@@ -339,5 +362,6 @@ fn what_a_file_cannot_hold_has_no_bytes() {
     for length in 0..9 {
         assert_eq!(file::vehicle(&VEHICLE[..length]), None);
         assert_eq!(file::members(&SURVEY[..length]), [[0; 16]; 0]);
+        assert_eq!(file::survey(&SURVEY[..length]).is_some(), length >= 6);
     }
 }

@@ -1,6 +1,7 @@
 //! The samples: text form and file agree, and the judgements are known.
 
 use std::path::PathBuf;
+use tbr::file::{self, Contents, Survey};
 use tbr::{form, judge};
 
 fn sample(name: &str) -> Vec<u8> {
@@ -8,9 +9,17 @@ fn sample(name: &str) -> Vec<u8> {
     std::fs::read(&path).unwrap_or_else(|error| panic!("{}: {error}", path.display()))
 }
 
+/// The survey file with something else in it.
+fn changed(survey: &[u8], change: impl FnOnce(&mut Survey)) -> Vec<u8> {
+    let mut survey = file::survey(survey).unwrap();
+    change(&mut survey);
+    Contents::Survey(survey).bytes().unwrap()
+}
+
 #[test]
 fn text_forms_and_files_agree() {
-    let surveys = ["case-a.tbr", "close-stringers.tbr", "crescent.tbr", "forest-road.tbr"];
+    let surveys =
+        ["case-a.tbr", "close-stringers.tbr", "crescent.tbr", "forest-road.tbr", "ordered.tbr"];
     for name in surveys.into_iter().chain(["case-l.tbv", "lorry.tbv"]) {
         let stem = name.split('.').next().unwrap();
         let made = form::read(&sample(&format!("{stem}.txt")));
@@ -23,7 +32,7 @@ fn text_forms_and_files_agree() {
 #[test]
 fn the_yard_is_of_these_vehicles() {
     let vehicles = [sample("case-l.tbv"), sample("lorry.tbv")];
-    let made = tbr::file::join_yard(&vehicles);
+    let made = file::join_yard(&vehicles);
     assert_eq!(made, Some(sample("yard.tby")), "made anew by 'tbr make --yard'");
     let judged = tbr::judge_yard(&sample("case-a.tbr"), &sample("yard.tby")).unwrap();
     let verdicts: Vec<bool> = judged.judgements.iter().map(|judgement| judgement.passes).collect();
@@ -42,9 +51,9 @@ fn the_bank_span_bears_the_lorry() {
     let (survey, vehicle) = (sample("crescent.tbr"), sample("lorry.tbv"));
     let judgement = judge(&survey, &vehicle).unwrap();
     assert_eq!((judgement.figure, judgement.governing, judgement.passes), (2857, 1, true));
-    let mut members = tbr::file::members(&survey);
-    members.iter_mut().for_each(|words| words[7] = 1);
-    let all_round = tbr::file::Contents::Survey(members).bytes().unwrap();
+    let all_round = changed(&survey, |survey| {
+        survey.members.iter_mut().for_each(|words| words[7] = 1);
+    });
     let judgement = judge(&all_round, &vehicle).unwrap();
     assert_eq!((judgement.figure, judgement.governing, judgement.passes), (1720, 1, false));
 }
@@ -56,11 +65,31 @@ fn the_forest_bridge_bears_the_lorry() {
     let (survey, vehicle) = (sample("close-stringers.tbr"), sample("lorry.tbv"));
     let judgement = judge(&survey, &vehicle).unwrap();
     assert_eq!((judgement.figure, judgement.governing, judgement.passes), (3394, 3, true));
-    let mut members = tbr::file::members(&survey);
-    members.iter_mut().for_each(|words| words[15] = 4);
-    let rotten = tbr::file::Contents::Survey(members).bytes().unwrap();
+    let rotten = changed(&survey, |survey| {
+        survey.members.iter_mut().for_each(|words| words[15] = 4);
+    });
     let judgement = judge(&rotten, &vehicle).unwrap();
     assert_eq!((judgement.figure, judgement.governing, judgement.passes), (2531, 3, false));
+}
+
+/// Two equals, the members 3 and 4, stand as they come in version 2; members that differ do not
+/// change places. In version 1 they do, and the loads stay those of the members.
+#[test]
+fn the_ordered_bridge_bears_the_lorry() {
+    let (survey, vehicle) = (sample("ordered.tbr"), sample("lorry.tbv"));
+    let judgement = judge(&survey, &vehicle).unwrap();
+    assert_eq!((judgement.figure, judgement.governing, judgement.passes), (3062, 2, true));
+    let first_version = |survey: &mut Survey| survey.version = 1;
+    assert_eq!(judge(&changed(&survey, first_version), &vehicle), Ok(judgement));
+    let [equal, next] = [2, 3];
+    let swapped = |(one, other)| changed(&survey, |survey| survey.members.swap(one, other));
+    assert_eq!(judge(&swapped((equal, next)), &vehicle), Ok(judgement));
+    for (place, one) in (2..).zip(0..7).filter(|(_, one)| *one != equal) {
+        let swapped = swapped((one, one + 1));
+        let refusal = judge(&swapped, &vehicle).unwrap_err();
+        assert_eq!((refusal.number, refusal.place), (16, place), "{refusal}");
+        assert!(judge(&changed(&swapped, first_version), &vehicle).is_ok());
+    }
 }
 
 /// The kinds 1 to 6; the steel plates have the figure, and the stringers of the bank span govern:
@@ -68,7 +97,7 @@ fn the_forest_bridge_bears_the_lorry() {
 #[test]
 fn the_forest_road_bridge_bears_the_lorry() {
     let survey = sample("forest-road.tbr");
-    let mut kinds: Vec<u16> = tbr::file::members(&survey).iter().map(|words| words[0]).collect();
+    let mut kinds: Vec<u16> = file::members(&survey).iter().map(|words| words[0]).collect();
     kinds.dedup();
     assert_eq!(kinds, [1, 2, 3, 4, 5, 6]);
     let judgement = judge(&survey, &sample("lorry.tbv")).unwrap();

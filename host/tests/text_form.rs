@@ -5,7 +5,7 @@ mod common;
 use common::seed;
 use reference::generate::*;
 use reference::reader;
-use tbr::file::{self, Contents};
+use tbr::file::{self, Contents, Survey};
 use tbr::form::{
     look, read, write, Field, Look, Problem, TextError, Value, AXLE, FIRST_AXLE, HEADING, KINDS,
     SECTIONS,
@@ -28,7 +28,7 @@ fn files_go_to_text_and_back() {
         let (members, axles) = (1 + random.below(64), 1 + random.below(16));
         let survey = survey_bytes(&survey(&mut random, spread, members));
         let vehicle = vehicle_bytes(&vehicle(&mut random, spread, axles));
-        let surveyed = Contents::Survey(file::members(&survey));
+        let surveyed = Contents::Survey(file::survey(&survey).unwrap());
         let driven = Contents::Vehicle(file::vehicle(&vehicle).unwrap());
         for (contents, bytes) in [(surveyed, survey), (driven, vehicle)] {
             assert_eq!(contents.bytes(), Some(bytes), "TBR_SEED={seed}, {i}");
@@ -156,7 +156,8 @@ fn the_limits_of_every_field_of_every_kind_and_section() {
             if kind.name == "close stringer" {
                 words[15] = 20;
             }
-            let text = write(&Contents::Survey(vec![words])).unwrap();
+            let text =
+                write(&Contents::Survey(Survey { version: 1, members: vec![words] })).unwrap();
             let line = text.lines().nth(1).unwrap();
             let fields = kind.fields.iter().chain(section.fields_in(kind));
             hold_limits("survey\n", line, &fields.collect::<Vec<_>>());
@@ -197,9 +198,12 @@ fn stringer(from: &str, to: &str) -> String {
     error(&format!("survey\n\n{}\n", STRINGER.replace(from, to)))
 }
 
+const HEADING_FAULT: &str =
+    "heading: the first line must be 'survey', 'survey, version N' or 'vehicle, ..'";
+
 #[test]
 fn errors_of_the_heading() {
-    let heading = "heading: the first line must be 'survey' or 'vehicle, ..'";
+    let heading = HEADING_FAULT;
     assert_eq!(error(""), format!("line 1, {heading}"));
     assert_eq!(error("# nothing\n\n"), format!("line 1, {heading}"));
     assert_eq!(error(&format!("\n{STRINGER}\n")), format!("line 2, {heading}"));
@@ -267,8 +271,8 @@ fn errors_of_a_crescent() {
     };
     let line = STRINGER.replace(log, &crescent(14, 2));
     let contents = read(format!("survey\n{line}\n").as_bytes()).unwrap();
-    let Contents::Survey(members) = &contents else { panic!("{contents:?}") };
-    assert_eq!(members[0], [1, 1, 500, 140, 0, 0, 100, 5, 14, 2, 1, 0, 0, 0, 0, 0]);
+    let Contents::Survey(survey) = &contents else { panic!("{contents:?}") };
+    assert_eq!(survey.members[0], [1, 1, 500, 140, 0, 0, 100, 5, 14, 2, 1, 0, 0, 0, 0, 0]);
     assert_eq!(write(&contents).unwrap(), format!("survey\n{line}\n"));
     for (diameter, depth, words) in [
         (13, 2, "diameter: 13 is outside 14 to 36 cm"),
@@ -405,7 +409,7 @@ fn a_missing_section_is_one_fault() {
 /// A missing or misspelt heading is one fault, and the records below it are still read.
 #[test]
 fn records_without_their_heading() {
-    let heading = "heading: the first line must be 'survey' or 'vehicle, ..'";
+    let heading = HEADING_FAULT;
     let (wrong, span) = (STRINGER.replace("500", "50"), "span: 50 is outside 100 to 5000 cm");
     let missing = format!("{STRINGER}\n{wrong}\n");
     assert_eq!(faults(missing.as_bytes()), format!("line 1, {heading}\nline 2, {span}"));
@@ -432,6 +436,8 @@ fn files_and_texts_are_told_apart() {
         (b"\x01TBR", Look::Other),
         (b"\x01", Look::Other),
         (b"survey", Look::Text(survey)),
+        (b"survey, version 2", Look::Text(survey)),
+        (b"TBR\x02\x00", Look::File(survey)),
         (b"\xef\xbb\xbf# a bridge\r\n\tsurvey,\r\n", Look::Text(survey)),
         (b"vehicle, class bus\naxle\n", Look::Text(vehicle)),
         (b"survy\ncross  beam, span\n", Look::Text(survey)),

@@ -71,7 +71,7 @@ fn another_file_only_by_force() {
     not_written(&["make", "case-a.txt", &file], why);
     assert_eq!(fs::read(&file).unwrap(), old);
     let (status, said, _) = run(&["make", "--force", "case-a.txt", &file]);
-    assert_eq!((status, said), (0, format!("{file}: survey of 1 member\n")));
+    assert_eq!((status, said), (0, format!("{file}: survey of 1 member, version 1\n")));
     assert_eq!(fs::read(&file).unwrap(), sample("case-a.tbr"));
 
     let notes = folder.file("notes.txt", "notes of a walk\n");
@@ -162,7 +162,7 @@ fn a_bare_name() {
     let text = folder.file("a.txt", text("case-a.txt"));
     for words in [&["make", &text, "a.tbr"][..], &["make", "--force", &text, "a.tbr"]] {
         let said = answer(tbr(words).current_dir(folder.folder()));
-        assert_eq!(said, (0, "a.tbr: survey of 1 member\n".to_string(), String::new()));
+        assert_eq!(said, (0, "a.tbr: survey of 1 member, version 1\n".to_string(), String::new()));
         assert_eq!(fs::read(folder.path("a.tbr")).unwrap(), sample("case-a.tbr"));
         assert_eq!(folder.names(), ["a.tbr", "a.txt"]);
     }
@@ -242,7 +242,7 @@ fn names_of_any_bytes() {
     };
     let (status, said, _) = run(&words(&["make", "case-a.txt"], &[&file]));
     assert_eq!(status, 0);
-    assert!(said.ends_with("br\u{fffd}cke.tbr: survey of 1 member\n"), "{said}");
+    assert!(said.ends_with("br\u{fffd}cke.tbr: survey of 1 member, version 1\n"), "{said}");
     assert_eq!(fs::read(&file).unwrap(), sample("case-a.tbr"));
     assert_eq!(run(&words(&["make", "--back"], &[&file, &text])).0, 0);
     assert_eq!(run(&words(&["make"], &[&text, &again])).0, 0);

@@ -1,6 +1,8 @@
 //! What is wrong with a text form, by line and field, or with a record of a file, by field.
 
 use super::field::Limits;
+use super::order::ORDER;
+use super::tables::ORDERED_FROM;
 use std::fmt;
 
 /// A fault of the text: its line, from 1, the field, and what is wrong with it.
@@ -98,6 +100,16 @@ pub enum Problem {
         /// The unit of both.
         unit: &'static str,
     },
+    /// The member stands behind one that it comes before, in a version whose members stand in one
+    /// order.
+    OutOfOrder {
+        /// What it has.
+        found: String,
+        /// What the other has.
+        greater: String,
+        /// Where the other stands.
+        at: String,
+    },
     /// The field is unused, and not 0.
     Unused {
         /// The number.
@@ -120,7 +132,7 @@ impl fmt::Display for FieldFault {
 }
 
 /// A number with its unit, where it has one.
-fn with_unit(number: impl fmt::Display, unit: &str) -> String {
+pub(super) fn with_unit(number: impl fmt::Display, unit: &str) -> String {
     format!("{number} {unit}").trim_end().to_string()
 }
 
@@ -137,7 +149,9 @@ impl fmt::Display for Problem {
     fn fmt(&self, f: &mut fmt::Formatter) -> fmt::Result {
         match self {
             Problem::NotText => write!(f, "this is not text (UTF-8)"),
-            Problem::NoHeading => write!(f, "the first line must be 'survey' or 'vehicle, ..'"),
+            Problem::NoHeading => {
+                write!(f, "the first line must be 'survey', 'survey, version N' or 'vehicle, ..'")
+            }
             Problem::NoRecord => write!(f, "none follows the heading"),
             Problem::TooMany { most } => write!(f, "a file holds at most {most}"),
             Problem::NotOneOf { found, allowed } => {
@@ -162,6 +176,10 @@ impl fmt::Display for Problem {
             Problem::Above { found, other, limit, unit } => {
                 let (found, limit) = (with_unit(found, unit), with_unit(limit, unit));
                 write!(f, "{found} is above the {other} of {limit}")
+            }
+            Problem::OutOfOrder { found, greater, at } => {
+                write!(f, "{found} is below the {greater} of {at}; ")?;
+                write!(f, "from version {ORDERED_FROM} members stand {ORDER}")
             }
             Problem::Unused { found, why } => write!(f, "{found} must be 0: {why}"),
         }

@@ -2,6 +2,7 @@
 
 use super::error::{FieldFault, Problem};
 use super::field::Field;
+use super::order;
 use super::tables::*;
 use super::write::{kind_of, section_of};
 use crate::file::{self, Axle, Member};
@@ -85,6 +86,20 @@ fn member(words: &Member, number: u64) -> Option<Vec<FieldFault>> {
     }
 }
 
+/// The number of a member that stands before its predecessor.
+const OUT_OF_ORDER: u64 = 16;
+
+/// What puts the member of this place before its predecessor.
+fn misplaced(bytes: &[u8], place: u64) -> Option<FieldFault> {
+    let members = file::members(bytes);
+    let earlier = place.checked_sub(1)?;
+    let of = |place: u64| members.get(usize::try_from(place).ok()?.checked_sub(1)?);
+    let (before, words) = (of(earlier)?, of(place)?);
+    let (word, problem) = order::misplaced(before, words, format!("member {earlier}"))?;
+    let field = order::field_of(words, word).map_or(MEMBER_LETTERS[word].to_string(), named);
+    Some(FieldFault { field, problem })
+}
+
 /// The record that a refusal is about.
 enum Record {
     Member(Member),
@@ -112,6 +127,9 @@ fn record(bytes: &[u8], refusal: &Refusal) -> Option<Record> {
 pub fn explain(bytes: &[u8], refusal: &Refusal) -> Vec<FieldFault> {
     let name = |field: &Field| field.name.to_string();
     match record(bytes, refusal) {
+        Some(Record::Member(_)) if refusal.number == OUT_OF_ORDER => {
+            misplaced(bytes, refusal.place).into_iter().collect()
+        }
         Some(Record::Member(words)) => member(&words, refusal.number).unwrap_or_default(),
         Some(Record::Heading(words)) => wrong(&HEADING, &words, name),
         Some(Record::FirstAxle(words)) => wrong(&FIRST_AXLE, &words, name),

@@ -11,6 +11,10 @@
 //! axle, weight 1500 kgf, distance 0 cm
 //! axle, weight 3000 kgf, distance 370 cm
 //! ```
+//! A survey is of version 1 with the heading `survey`, of version 2 with `survey, version 2`. From
+//! version 2 on its members stand in one order: by kind, then span or truss spacing, then spacing,
+//! each rising, and equals as they come.
+//!
 //! `#` opens a comment; blank lines are passed over; the order within a line is free after its
 //! first words. A byte order mark, either end of line, any run of blanks and tabs, and a comma at
 //! the end of a line are taken as they are meant.
@@ -20,6 +24,7 @@ mod explain;
 mod field;
 mod line;
 mod look;
+mod order;
 mod read;
 mod tables;
 mod write;
@@ -28,6 +33,10 @@ pub use error::{FieldFault, Problem, TextError};
 pub use explain::{explain, numbers};
 pub use field::{Field, Limits, Value, Within};
 pub use look::{look, Look};
+pub use order::ORDER;
 pub use read::read;
-pub use tables::{Kind, Layout, Section, ALL_SPECIES, AXLE, FIRST_AXLE, HEADING, KINDS, SECTIONS};
+pub use tables::{
+    Kind, Layout, Section, ALL_SPECIES, AXLE, FIRST_AXLE, FIRST_VERSION, HEADING, KINDS,
+    ORDERED_FROM, SECTIONS, VERSION,
+};
 pub use write::{clause, kind_of, section_of, write};

@@ -3,9 +3,11 @@
 use super::error::{Problem, TextError};
 use super::field::{Field, Value};
 use super::line::Line;
+use super::order;
 use super::tables::*;
-use crate::file::{Axle, Contents, Member, Vehicle};
+use crate::file::{Axle, Contents, Member, Survey, Vehicle};
 use crate::refusal::Which;
+use std::collections::BTreeSet;
 
 /// A line of the text, or the fault that it is none.
 type Cut = Result<Line, TextError>;
@@ -79,6 +81,46 @@ fn member(line: &Line, faults: &mut Vec<TextError>) -> Member {
     faults.extend(line.strangers(&[fields.clone(), let_pass].concat()));
     faults.extend(line.fill(&fields, &mut words));
     words
+}
+
+/// The version in a survey's heading, which may go without saying. Of one that is wrong no order is
+/// asked.
+fn version(line: &Line, faults: &mut Vec<TextError>) -> u16 {
+    faults.extend(line.strangers(&[&VERSION]));
+    line.value(&VERSION).unwrap_or_else(|fault| {
+        faults.extend(Some(fault).filter(|fault| fault.problem != Problem::Missing));
+        FIRST_VERSION
+    })
+}
+
+/// The members, each with its line, that stand behind one that they come before. A line with
+/// another fault is passed over: its numbers may not be those that are meant.
+fn misplaced(members: &[(usize, Member)], faults: &[TextError]) -> Vec<TextError> {
+    let faulty: BTreeSet<usize> = faults.iter().map(|fault| fault.line).collect();
+    let sound = members.iter().filter(|(line, _)| !faulty.contains(line));
+    let sound: Vec<&(usize, Member)> = sound.collect();
+    let fault = |pair: &[&(usize, Member)]| {
+        let [(earlier, before), (line, words)] = *pair else { return None };
+        let (word, problem) = order::misplaced(before, words, format!("line {earlier}"))?;
+        let name = order::field_of(words, word).map_or(MEMBER_LETTERS[word], |field| field.name);
+        Some(TextError { line: *line, field: name.to_string(), problem })
+    };
+    sound.windows(2).filter_map(fault).collect()
+}
+
+fn survey(
+    heading: Option<&Line>,
+    number: usize,
+    lines: &[Cut],
+    faults: &mut Vec<TextError>,
+) -> Survey {
+    let version = heading.map_or(FIRST_VERSION, |line| version(line, faults));
+    let read = |_, line: &Line, faults: &mut Vec<TextError>| (line.number, member(line, faults));
+    let members = records((Which::Survey, number), lines, faults, read);
+    if version >= ORDERED_FROM {
+        faults.extend(misplaced(&members, faults));
+    }
+    Survey { version, members: members.into_iter().map(|(_, words)| words).collect() }
 }
 
 /// The two numbers of a vehicle's heading or of an axle.
@@ -156,13 +198,7 @@ fn contents(lines: &[Cut], faults: &mut Vec<TextError>) -> Option<Contents> {
     let (first, rest) = split(lines, faults);
     let number = first.map_or(1, |line| line.number);
     match which(lines) {
-        Some(Which::Survey) => {
-            if let Some(line) = first {
-                faults.extend(line.strangers(&[]));
-            }
-            let read = |_, line: &Line, faults: &mut Vec<TextError>| member(line, faults);
-            Some(Contents::Survey(records((Which::Survey, number), rest, faults, read)))
-        }
+        Some(Which::Survey) => Some(Contents::Survey(survey(first, number, rest, faults))),
         Some(Which::Vehicle) => {
             let words = first.map(|line| pair(line, &HEADING, faults));
             let read = |place, line: &Line, faults: &mut Vec<TextError>| {

@@ -9,8 +9,8 @@ use crate::refusal::Which;
 pub struct Layout {
     /// The three letters.
     pub mark: &'static [u8; 3],
-    /// The version that is written.
-    pub version: u16,
+    /// The last version that is taken; all from [`FIRST_VERSION`] on are.
+    pub last_version: u16,
     /// What a record is called.
     pub record: &'static str,
     /// So many records it holds.
@@ -21,11 +21,23 @@ impl Which {
     /// The layout of this file.
     pub fn layout(self) -> &'static Layout {
         match self {
-            Which::Survey => &Layout { mark: b"TBR", version: 1, record: "member", most: 64 },
-            Which::Vehicle => &Layout { mark: b"TBV", version: 1, record: "axle", most: 16 },
+            Which::Survey => &SURVEY,
+            Which::Vehicle => &VEHICLE,
         }
     }
 }
+
+/// The first version of either file.
+pub const FIRST_VERSION: u16 = 1;
+/// From this version on the members of a survey stand in one order.
+pub const ORDERED_FROM: u16 = 2;
+
+const SURVEY: Layout = Layout { mark: b"TBR", last_version: 2, record: "member", most: 64 };
+const VEHICLE: Layout =
+    Layout { mark: b"TBV", last_version: FIRST_VERSION, record: "axle", most: 16 };
+
+/// The version in the heading of a survey's text form; one without it is of the first version.
+pub const VERSION: Field = number("version", 0, FIRST_VERSION, SURVEY.last_version, "");
 
 /// A kind of member: its term, its number, and its fields, the section's own excepted.
 #[derive(Debug)]
@@ -60,6 +72,10 @@ pub const MEMBER_LETTERS: [&str; 16] = [
 pub const KIND_WORD: usize = 0;
 /// The word of the species.
 pub const SPECIES_WORD: usize = 1;
+/// The word of the span, which is the truss spacing of a cross beam.
+pub const SPAN_WORD: usize = 2;
+/// The word of the spacing.
+pub const SPACING_WORD: usize = 3;
 /// The word of the section code.
 pub const SECTION_WORD: usize = 7;
 
@@ -77,9 +93,9 @@ pub const ALL_SPECIES: [(&str, u16); 10] = [
     ("beech", 8),
 ];
 const SPECIES: Field = words("species", SPECIES_WORD, &ALL_SPECIES);
-const SPAN: Field = number("span", 2, 100, 5000, "cm");
-const TRUSS_SPACING: Field = number("truss spacing", 2, 100, 5000, "cm");
-const SPACING: Field = number("spacing", 3, 10, 1000, "cm");
+const SPAN: Field = number("span", SPAN_WORD, 100, 5000, "cm");
+const TRUSS_SPACING: Field = number("truss spacing", SPAN_WORD, 100, 5000, "cm");
+const SPACING: Field = number("spacing", SPACING_WORD, 10, 1000, "cm");
 const FROM_SUPPORT: Field = number("from support", 4, 1, 4999, "cm").within(Within::Below(&SPAN));
 const PANEL: Field = number("panel length", 4, 10, 1000, "cm");
 const TRUSS_HEIGHT: Field = number("truss height", 5, 10, 500, "cm");
@@ -90,7 +106,7 @@ const JOINT_PART: Field =
 const CHORD_WHOLE: Field = number("chord whole", 15, 1, 1000, "");
 
 /// The stringers under a deck that spreads a wheel's load, and the boards of the deck.
-const CLOSE_SPACING: Field = number("spacing", 3, 30, 100, "cm");
+const CLOSE_SPACING: Field = number("spacing", SPACING_WORD, 30, 100, "cm");
 const BOARDS: Field = number("boards", 4, 1, 10, "");
 const BOARD_THICKNESS: Field = number("board thickness", 5, 1, 20, "cm");
 const BOARD_WIDTH: Field = number("board width", 14, 1, 60, "cm");
@@ -201,9 +217,14 @@ impl Kind {
         KINDS.iter().find(|kind| kind.code == code)
     }
 
+    /// Its field of this word.
+    pub fn field(&self, word: usize) -> Option<&'static Field> {
+        self.fields.iter().find(|field| field.word == word)
+    }
+
     /// The field of its section.
     pub fn section(&self) -> Option<&'static Field> {
-        self.fields.iter().find(|field| field.word == SECTION_WORD)
+        self.field(SECTION_WORD)
     }
 }
 

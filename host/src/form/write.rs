@@ -2,7 +2,7 @@
 
 use super::field::{Field, Value};
 use super::tables::*;
-use crate::file::{Contents, Member, Vehicle};
+use crate::file::{Contents, Member, Survey, Vehicle};
 
 /// A field with its value: name, value, unit. None where the record is too short for it, or where
 /// its number has no word.
@@ -49,6 +49,13 @@ fn member(words: &Member) -> Option<String> {
     line(kind.name, fields, words)
 }
 
+/// The first version goes without saying.
+fn survey(survey: &Survey) -> Option<String> {
+    let said = (survey.version != FIRST_VERSION).then_some(&VERSION);
+    let members = survey.members.iter().map(member);
+    Some(line("survey", said, &[survey.version])? + &members.collect::<Option<String>>()?)
+}
+
 fn vehicle(vehicle: &Vehicle) -> Option<String> {
     let axles = vehicle.axles.iter().map(|words| line("axle", &AXLE, words));
     Some(line("vehicle", &HEADING, &vehicle.heading)? + &axles.collect::<Option<String>>()?)
@@ -57,10 +64,7 @@ fn vehicle(vehicle: &Vehicle) -> Option<String> {
 /// The text form of a file. None where a number has no word: the library takes no such file.
 pub fn write(contents: &Contents) -> Option<String> {
     match contents {
-        Contents::Survey(members) => {
-            let lines = members.iter().map(member).collect::<Option<String>>()?;
-            Some("survey\n".to_string() + &lines)
-        }
+        Contents::Survey(words) => survey(words),
         Contents::Vehicle(words) => vehicle(words),
     }
 }

@@ -29,8 +29,8 @@ fn axle(place: usize, words: &[u16]) -> Option<String> {
 
 fn lines(contents: &Contents) -> Option<String> {
     match contents {
-        Contents::Survey(members) => {
-            members.iter().zip(1..).map(|(words, place)| member(place, words)).collect()
+        Contents::Survey(survey) => {
+            survey.members.iter().zip(1..).map(|(words, place)| member(place, words)).collect()
         }
         Contents::Vehicle(vehicle) => {
             let heading = format!("     {}\n", clauses(&HEADING, &vehicle.heading)?);

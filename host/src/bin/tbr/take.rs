@@ -47,7 +47,7 @@ fn from_file(input: &Input, which: Which) -> Result<Taken, Failure> {
     let Input { name, bytes, .. } = input;
     check(bytes, which).map_err(|refusal| refused(name, bytes, refusal))?;
     let contents = match which {
-        Which::Survey => Some(Contents::Survey(file::members(bytes))),
+        Which::Survey => file::survey(bytes).map(Contents::Survey),
         Which::Vehicle => file::vehicle(bytes).map(Contents::Vehicle),
     };
     match contents {
@@ -140,10 +140,14 @@ fn counted(count: usize, what: &str) -> String {
     format!("{count} {what}{}", if count == 1 { "" } else { "s" })
 }
 
-/// In a few words.
+/// In a few words. A vehicle has but one version.
 pub fn summary(contents: &Contents) -> String {
     let which = contents.which();
-    format!("{which} of {}", counted(contents.count(), which.layout().record))
+    let summary = format!("{which} of {}", counted(contents.count(), which.layout().record));
+    match contents {
+        Contents::Survey(survey) => format!("{summary}, version {}", survey.version),
+        Contents::Vehicle(_) => summary,
+    }
 }
 
 /// The same of a yard of so many vehicles.
