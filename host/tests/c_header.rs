@@ -73,6 +73,8 @@ fn a_c_program_gets_the_same() {
     let fits = 2 * usize::from(survey[5]);
     let mut marked = vehicle.clone();
     marked[0] = b'?';
+    let mut out_of_order = survey.clone();
+    out_of_order[3] = 2;
     let joined = |files: &[&Vec<u8>]| tbr::file::join_yard(files).unwrap();
     let yard = joined(&[&vehicle, &sample("case-l.tbv"), &vehicle, &vehicle, &vehicle]);
     let damaged = joined(&[&vehicle, &marked]);
@@ -81,6 +83,8 @@ fn a_c_program_gets_the_same() {
         (&vehicle, &vehicle, &yard),
         (&survey, &marked, &damaged),
         (&survey, &survey, &survey),
+        (&sample("ordered.tbr"), &vehicle, &yard),
+        (&out_of_order, &vehicle, &yard),
     ];
     for (survey, vehicle, yard) in all {
         for entries in [0, fits - 1, fits, fits + 1, fits + 3] {
