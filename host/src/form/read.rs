@@ -83,8 +83,7 @@ fn member(line: &Line, faults: &mut Vec<TextError>) -> Member {
     words
 }
 
-/// The version in a survey's heading, which may go without saying. Of one that is wrong no order is
-/// asked.
+/// The version in a survey's heading, which may be left out. Where it is wrong, no order is asked.
 fn version(line: &Line, faults: &mut Vec<TextError>) -> u16 {
     faults.extend(line.strangers(&[&VERSION]));
     line.value(&VERSION).unwrap_or_else(|fault| {

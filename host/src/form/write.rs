@@ -49,7 +49,7 @@ fn member(words: &Member) -> Option<String> {
     line(kind.name, fields, words)
 }
 
-/// The first version goes without saying.
+/// The first version is left out of the heading.
 fn survey(survey: &Survey) -> Option<String> {
     let said = (survey.version != FIRST_VERSION).then_some(&VERSION);
     let members = survey.members.iter().map(member);

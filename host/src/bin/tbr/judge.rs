@@ -7,7 +7,7 @@ use crate::input::{read, shown, STANDARD};
 use crate::take::{either, internal, Taken};
 use crate::{check, csv, json, table};
 use std::ffi::{OsStr, OsString};
-use tbr::file::Contents;
+use tbr::file::{Contents, Survey};
 use tbr::form::kind_of;
 use tbr::{Judgement, MemberLoads, Refusal, Which};
 
@@ -66,8 +66,8 @@ pub fn verdict(passes: bool) -> &'static str {
 
 /// The kinds of a survey's members, by name.
 fn kinds(survey: &Taken) -> Option<Vec<&'static str>> {
-    let Contents::Survey(words) = &survey.contents else { return None };
-    words.members.iter().map(|words| kind_of(words).map(|kind| kind.name)).collect()
+    let Contents::Survey(Survey { members, .. }) = &survey.contents else { return None };
+    members.iter().map(|words| kind_of(words).map(|kind| kind.name)).collect()
 }
 
 /// A judgement with the loads of every member, to which it is held; or how they do not fit.

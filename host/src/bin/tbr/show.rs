@@ -5,7 +5,7 @@ use crate::end::{End, Failure};
 use crate::input::{read, Input};
 use crate::take::{self, internal, summary, yard_summary};
 use std::ffi::OsStr;
-use tbr::file::{Contents, Member};
+use tbr::file::{Contents, Member, Survey};
 use tbr::form::{clause, kind_of, look, section_of, Field, Look, AXLE, HEADING};
 
 fn clauses(fields: &[Field], words: &[u16]) -> Option<String> {
@@ -29,8 +29,8 @@ fn axle(place: usize, words: &[u16]) -> Option<String> {
 
 fn lines(contents: &Contents) -> Option<String> {
     match contents {
-        Contents::Survey(survey) => {
-            survey.members.iter().zip(1..).map(|(words, place)| member(place, words)).collect()
+        Contents::Survey(Survey { members, .. }) => {
+            members.iter().zip(1..).map(|(words, place)| member(place, words)).collect()
         }
         Contents::Vehicle(vehicle) => {
             let heading = format!("     {}\n", clauses(&HEADING, &vehicle.heading)?);
