@@ -6,6 +6,7 @@ pub mod Each
 pub mod Faults
 pub mod Members
 mod Sequences
+mod OneOrder
 pub mod Refusals
 pub mod Surveys
 pub mod Vehicles
