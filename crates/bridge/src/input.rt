@@ -5,13 +5,10 @@ ghost use lib.ListN.{length};
 ghost use Rattle.session.specs.Answers.{loaded};
 ghost use Rattle.session.specs.Calls.{Valid};
 ghost use Rattle.bridge.specs.Input.{ENOUGH, LoadedFrom, surveyLength, loadInput};
+use files::survey::HEADER;
+use files::survey::RECORD;
 use session::AfterLoad;
 use session::load_files;
-
-// The survey's header, whose last byte is the count of records.
-const HEADER: usize = 6;
-
-const RECORD: usize = 32;
 
 // The longest survey and the longest vehicle that a count byte can call for, and one byte more.
 pub const ENOUGH: usize = 6 + 32 * 255 + (9 + 4 * 255) + 1;
@@ -23,7 +20,7 @@ fn wide(x: u8) -> usize
     x as usize
 }
 
-// How many bytes of the input are the survey.
+// How many bytes of the input are the survey: the last byte of its header is the count of records.
 fn survey_length(input: &[u8]) -> usize
     ensures { λ r. ⌜ r ≡ surveyLength (now (input .entry)) ⌝ }
 {

@@ -1,14 +1,13 @@
 -- Of records no two of which are equals there is one order: a matching of two rows in order keeps the order, so it can move no record.
 -- Assumes nothing.
 use Prim.Native.Nat.{ℕ, zero, suc, _+_, _-_, _≤_, _<_}
-use mathlib.Core.Path.{_≡_, refl, ap, sym, _∙_}
+use mathlib.Core.Path.{_≡_, ap, _∙_}
 use mathlib.Core.List.{List, [], _∷_}
-use mathlib.Core.Logic.{_⊎_, inl, inr, ⊎-elim}
+use mathlib.Core.Logic.{inl, inr, ⊎-elim}
 use native.Mathlib.Decide.{decLt}
 use native.Mathlib.Omega.{arith}
-use Rattle.member.specs.Fields.{field}
 use Rattle.member.specs.declared.record.Member.{Member}
-use Rattle.files.specs.Sequence.{sequenceFields, Before, InSequence, OneOrder}
+use Rattle.files.specs.Sequence.{sequenceFields, Before, OneOrder}
 
 -- no record stands before itself
 not-itself : (fs : List ℕ) (m : Member) → ¬ (Before fs m m)

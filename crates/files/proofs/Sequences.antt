@@ -1,5 +1,5 @@
--- The order of a survey's records: the test decides it, and it is enough to test each record against its predecessor, since of three records
--- the first stands before the last only where it stands before the middle one or that one before the last.
+-- The order of a survey's records: the test decides it, and it is enough to test each record against its predecessor, since of records m, n
+-- and k m stands before k only where m stands before n or n before k.
 -- Assumes nothing.
 use Prim.Native.Nat.{ℕ, zero, suc, _+_, _-_, _≤_, _<_}
 use mathlib.Core.Path.{_≡_, refl, sym, _∙_}
@@ -8,7 +8,7 @@ use mathlib.Core.List.{List, [], _∷_}
 use mathlib.Core.Logic.{_⊎_, inl, inr, ⊎-elim}
 use native.Mathlib.Decide.{decLt}
 use native.Mathlib.Omega.{arith}
-use lib.Dec.{eqb, leb, ltb}
+use lib.Dec.{eqb, ltb}
 use borrow.Author.Tests.{eqb-true, eq-eqb, ne-eqb, leb-true, le-leb, lt-leb}
 use Rattle.section.specs.Choose.{choose}
 use Rattle.member.specs.Fields.{field}
@@ -20,7 +20,7 @@ use Rattle.files.specs.Header.{versionOf}
 use Rattle.files.specs.SurveyFile.{SEQUENCE-FROM, recordAt, sequenceFault, sequenceAnswer}
 use Rattle.files.specs.declared.Reading.the-variants.{Taken, Refused}
 use Rattle.files.specs.declared.Refusal.{Refusal}
-use Rattle.files.proofs.Each.{getD-each, length-each}
+use Rattle.files.proofs.Each.{getD-each}
 use Rattle.files.proofs.Faults.{refusal, refused-not, fault-at, taken-none, none-taken, FaultAt, refused-at}
 use Rattle.files.proofs.Tests.{both, refutes}
 
@@ -44,7 +44,7 @@ module _ (f : ℕ) (m m' : Member) {a b : ℕ} (is : a ≡ field m f) (ahead : b
 
 -- the test and the words
 module _ (m m' : Member) where
-  pub before-read : (fs : List ℕ) → before fs m m' ≡ true → Before fs m m'
+  before-read : (fs : List ℕ) → before fs m m' ≡ true → Before fs m m'
   unfolding before
   before-read [] e = false≢true e
   before-read (f ∷ fs) e = go (eqb (field m f) (field m' f)) refl e (before-read fs)
@@ -53,23 +53,23 @@ module _ (m m' : Member) where
       go true t e more = inr (eqb-true _ _ t, more e)
       go false t e more = inl (leb-true (suc (field m f)) (field m' f) e)
 
-  pub before-given : (fs : List ℕ) → Before fs m m' → before fs m m' ≡ true
+  before-given : (fs : List ℕ) → Before fs m m' → before fs m m' ≡ true
   unfolding before
   before-given [] h = absurd h
   before-given (f ∷ fs) (inl l) = rw (ne-eqb (field m f) (field m' f) (omega arith)) (le-leb (suc (field m f)) (field m' f) l)
   before-given (f ∷ fs) (inr (e, h)) = rw (eq-eqb (field m f) (field m' f) e) (before-given fs h)
 
 module _ (at : ℕ → Member) (i : ℕ) where
-  pub predecessor-read : beforePredecessor at i ≡ true → BeforePredecessor at i
+  predecessor-read : beforePredecessor at i ≡ true → BeforePredecessor at i
   predecessor-read e =
       let h = both (ltb 0 i) (before sequenceFields (at i) (at (i - 1))) e in
       (leb-true 1 i (h .0), before-read (at i) (at (i - 1)) sequenceFields (h .1))
 
-  pub predecessor-given : BeforePredecessor at i → beforePredecessor at i ≡ true
+  predecessor-given : BeforePredecessor at i → beforePredecessor at i ≡ true
   predecessor-given h = rw (le-leb 1 i (h .0)) (before-given (at i) (at (i - 1)) sequenceFields (h .1))
 
 -- of three records
-pub compared : (fs : List ℕ) (m n k : Member) → Before fs m k → Before fs m n ⊎ Before fs n k
+compared : (fs : List ℕ) (m n k : Member) → Before fs m k → Before fs m n ⊎ Before fs n k
 compared [] m n k h = absurd h
 compared (f ∷ fs) m n k (inl l) = elim (decLt (field m f) (field n f)) [ yes h ↦ inl (inl h) | no h ↦ inr (inl (omega arith)) ]
 compared (f ∷ fs) m n k (inr (e, h)) = go (decLt (field m f) (field n f)) (decLt (field n f) (field m f)) (compared fs m n k h)
@@ -91,7 +91,7 @@ module _ (bytes : List ℕ) (i : ℕ) where
   unfolding sequenceFault
   fault-given h = rw (predecessor-given (recordAt bytes) i h)
 
-  pub no-fault : ¬ (BeforePredecessor (recordAt bytes) i) → sequenceFault bytes i ≡ 0
+  no-fault : ¬ (BeforePredecessor (recordAt bytes) i) → sequenceFault bytes i ≡ 0
   unfolding sequenceFault
   no-fault h = rw (refutes (beforePredecessor (recordAt bytes) i) (predecessor-read (recordAt bytes) i) h)
 
@@ -105,7 +105,7 @@ module _ (bytes : List ℕ) (i : ℕ) where
 
 -- no record stands before its predecessor exactly where none stands before any earlier one
 module _ (at : ℕ → Member) (n : ℕ) where
-  pub neighbours : ((i : ℕ) → i < n → ¬ (BeforePredecessor at i)) → InSequence at n
+  neighbours : ((i : ℕ) → i < n → ¬ (BeforePredecessor at i)) → InSequence at n
   neighbours h i zero l w = absurd (omega arith)
   neighbours h i (suc k) l w = go (decLt i k) (neighbours h i k)
     where
@@ -116,7 +116,7 @@ module _ (at : ℕ → Member) (n : ℕ) where
       go (yes s) more b = ⊎-elim ahead (more s (omega arith)) (compared sequenceFields (at (suc k)) (at k) (at i) b)
       go (no s) more b = let e : i ≡ k = omega arith in ahead (rw e at b)
 
-  pub in-sequence : InSequence at n → (i : ℕ) → i < n → ¬ (BeforePredecessor at i)
+  in-sequence : InSequence at n → (i : ℕ) → i < n → ¬ (BeforePredecessor at i)
   in-sequence h i l b = h (i - 1) i (omega (arith, b .0)) l (b .1)
 
 -- the answer for the first n records of a file

@@ -80,7 +80,7 @@ module _ (bytes : List ℕ) where
         count = h .count;
         size = h .sized;
         members = members;
-        order = sequence-read bytes (countOf bytes) sequence;
+        order = λ v. sequence-read bytes (countOf bytes) sequence (omega arith);
       }
 
   pub allowed-taken : AllowedSurveyFile bytes → readSurvey bytes .answer ≡ Taken
@@ -88,7 +88,7 @@ module _ (bytes : List ℕ) where
   allowed-taken a =
       let long : SURVEY-HEADER ≤ length bytes = omega (arith, a .size) in
       let h : HeadedSurvey = record { long = long; marked = (a .mark, a .version); count = a .count; sized = a .size } in
-      rw (good-records h (a .members)) (sequence-given bytes (countOf bytes) (a .order))
+      rw (good-records h (a .members)) (sequence-given bytes (countOf bytes) (λ v. a .order (omega arith)))
 
   -- a taken file's survey is the file's
   pub taken-survey : readSurvey bytes .answer ≡ Taken → readSurvey bytes .survey ≡ surveyOf bytes
@@ -180,7 +180,7 @@ module _ (bytes : List ℕ) where
               good = members;
               within = within;
               fault = at;
-              first = λ k l b. omega (arith, fault-given bytes k b, getD-each (sequenceFault bytes) (countOf bytes) k 0 (omega arith), h .first k l);
+              first = λ k l b. omega (arith, fault-given bytes k b, getD-each (sequenceFault bytes) (countOf bytes) k 0 (omega arith), h .first k (omega arith));
             };
       }
 

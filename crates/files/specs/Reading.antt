@@ -1,4 +1,4 @@
--- The answer of a reading, and the order of its tests. A test that fails is a number of document 01, 'Calls'; 0 is none.
+-- The answer of a reading, and the order of its tests. A test that fails is a refusal's number in documents 01 and 02; 0 is none.
 use Prim.Native.Nat.{ℕ, suc}
 use mathlib.Core.List.{List, [], _∷_}
 use mathlib.Core.Bool.{Bool, _&&_}

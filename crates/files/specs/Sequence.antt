@@ -14,8 +14,8 @@ use Rattle.member.specs.declared.record.Member.{Member}
 abbrev pub sequenceFields : List ℕ
 sequenceFields = KIND ∷ SPAN ∷ SPACING ∷ []
 
--- a record stands before another by these fields, "each rising": the first in which the two differ is less in it. "equals" differ in none,
--- and neither stands before the other
+-- a record stands before another by these fields, "each rising": in the first of them in which the two differ it has the lesser number.
+-- "equals" differ in none, and neither stands before the other
 unfoldable pub before : List ℕ → (m m' : Member) → Bool
 before [] m m' = false
 before (f ∷ fs) m m' = choose (eqb (field m f) (field m' f)) (before fs m m') (ltb (field m f) (field m' f))

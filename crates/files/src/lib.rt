@@ -12,7 +12,7 @@ pub mod yard;
 use member::record::Survey;
 use member::record::Vehicle;
 
-// A refusal: document 01's number, and the place of the record that has the fault.
+// A refusal: the documents' number, and the place of the record that has the fault.
 pub struct Refusal {
     pub number: u64,
     pub place: u64,

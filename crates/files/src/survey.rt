@@ -1,4 +1,5 @@
-// Reading a survey file: the header's tests, then the first fault in record order, then the records.
+// Reading a survey file: the header's tests, then the first fault in record order, then from version 2 on the order of the records; then
+// the records.
 use crate::Reading;
 use crate::Refusal;
 use crate::SurveyRead;

@@ -20,7 +20,7 @@ pub record Heavier (v v' : Vehicle) : Type 0 where
   pub distances : (i : ℕ) → i < v .axles → distance (v .distances) i ≡ distance (v' .distances) i
 
 -- Document 02, request 8/13: a "way of matching each record of the first with one of the second, no two with the same, whatever their places
--- and versions; matched records are the shared members", and the second of two is as worn or more, all else alike
+-- and versions; matched records are the shared members". Of two matched records the second is as worn or more, all else alike
 pub record Matching (ms ms' : List Member) : Type 0 where
   pub partner : ℕ → ℕ
   pub inside : (i : ℕ) → i < length ms → partner i < length ms'

@@ -1,6 +1,5 @@
 -- `field_at` meets its contract: the words of a record stand one behind the other from its place on.
 use mathlib.Core.Path.{sym, _∙_}
-use native.Mathlib.Omega.{arith}
 use borrow.Author.Needs.{needs}
 use denote.Ref.{now}
 use Prim.Native.Nat.{_+_, _*_}

@@ -1,5 +1,5 @@
 -- `sequence_answer` meets its contract. The loop's invariant: none of the first i records stands before its predecessor.
-use Prim.Native.Nat.{ℕ, _-_, _≤_}
+use Prim.Native.Nat.{_-_, _≤_}
 use mathlib.Core.Path.{_≡_, refl, sym, ap, _∙_}
 use mathlib.Core.Bool.{Bool, not}
 use native.Mathlib.Omega.{arith}

@@ -4,7 +4,6 @@ use mathlib.Core.Path.{sym, _∙_}
 use native.Mathlib.Omega.{arith}
 use borrow.Author.Needs.{needs}
 use denote.Ref.{now}
-use Rattle.files.specs.SurveyFile.{countOf}
 use Rattle.files.proofs.Surveys.{headed-survey, headed-first, headed-clear, read-as}
 use Rattle.files.proofs.survey.read_survey.Statement.{statement}
 use Rattle.files.proofs.survey.read_survey.Tie as tie
