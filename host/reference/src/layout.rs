@@ -32,6 +32,10 @@ pub const LAST_KIND: u16 = 7;
 /// The kind of closely spaced stringers.
 pub const CLOSE_STRINGER: u16 = 7;
 
+/// The survey's versions: its records stand as they come, or in one order.
+pub const FREE_ORDER: u16 = 1;
+pub const IN_ORDER: u16 = 2;
+
 /// The words of one record.
 pub type Words = [u16; 16];
 
@@ -148,4 +152,10 @@ pub fn wears(words: &Words, word: usize) -> bool {
         _ => false,
     };
     lost_area || word == DEAD_LOAD || is_rot(words, word)
+}
+
+/// Where a record stands: "by kind, then span, then spacing, each rising". A cross beam's spacing
+/// is 0.
+pub fn standing(words: &Words) -> [u16; 3] {
+    [words[KIND], words[SPAN], words[SPACING]]
 }

@@ -50,8 +50,18 @@ pub struct Vehicle {
     pub axles: Vec<Axle>,
 }
 
-const SURVEY_HEADER: usize = 6;
-const VEHICLE_HEADER: usize = 9;
+/// How a file begins: its mark, the versions from 1, the bytes before the records, the most records
+/// and the bytes of each.
+struct Form {
+    mark: &'static [u8; 3],
+    last_version: u16,
+    header: usize,
+    most: u8,
+    each: usize,
+}
+
+const SURVEY: Form = Form { mark: b"TBR", last_version: IN_ORDER, header: 6, most: 64, each: 32 };
+const VEHICLE: Form = Form { mark: b"TBV", last_version: 1, header: 9, most: 16, each: 4 };
 
 fn word(bytes: &[u8], at: usize) -> u16 {
     u16::from_le_bytes([bytes[at], bytes[at + 1]])
@@ -61,23 +71,25 @@ fn within(value: u16, least: u16, greatest: u16) -> bool {
     least <= value && value <= greatest
 }
 
-/// Tests 1 (too short for the header), 2, 3, 1 in that order; the count where all are passed.
-fn header(bytes: &[u8], mark: &[u8; 3], size: usize, most: u8, each: usize) -> Result<usize, u64> {
-    if bytes.len() < size {
+/// Tests 1 (too short for the header), 2, 3, 1 in that order; the version and the count where all
+/// are passed.
+fn header(bytes: &[u8], form: &Form) -> Result<(u16, usize), u64> {
+    if bytes.len() < form.header {
         return Err(1);
     }
-    if bytes[..3] != mark[..] || word(bytes, 3) != 1 {
+    let version = word(bytes, 3);
+    if bytes[..3] != form.mark[..] || !within(version, 1, form.last_version) {
         return Err(2);
     }
-    let count = bytes[size - 1];
-    if count < 1 || count > most {
+    let count = bytes[form.header - 1];
+    if count < 1 || count > form.most {
         return Err(3);
     }
     let count = usize::from(count);
-    if bytes.len() != size + each * count {
+    if bytes.len() != form.header + form.each * count {
         return Err(1);
     }
-    Ok(count)
+    Ok((version, count))
 }
 
 /// The first fault of a record: 4, 5, 6, 8, 7.
@@ -122,17 +134,29 @@ pub fn member(w: &Words) -> Member {
     }
 }
 
-/// A survey file's records as they stand.
+/// The place of the first record that stands before its predecessor; "equals stand as they come".
+fn misplaced(records: &[Words]) -> Option<u64> {
+    let mut pairs = records.windows(2).zip(2..);
+    pairs.find(|(pair, _)| standing(&pair[1]) < standing(&pair[0])).map(|(_, later)| later)
+}
+
+/// A survey file's records as they stand. "16: a record before its predecessor; place of the later
+/// one; after all records are otherwise good." "Version 1 keeps free order."
 pub fn records(bytes: &[u8]) -> Result<Vec<Words>, Refused> {
     let refused = |number, place| Refused { file: File::Survey, number, place };
-    let count = header(bytes, b"TBR", SURVEY_HEADER, 64, 32).map_err(|n| refused(n, 0))?;
+    let (version, count) = header(bytes, &SURVEY).map_err(|number| refused(number, 0))?;
     let mut records = Vec::with_capacity(count);
-    for (record, place) in bytes[SURVEY_HEADER..].chunks_exact(32).zip(1..) {
+    for (record, place) in bytes[SURVEY.header..].chunks_exact(SURVEY.each).zip(1..) {
         let words: Words = std::array::from_fn(|i| word(record, 2 * i));
         if let Some(number) = record_fault(&words) {
             return Err(refused(number, place));
         }
         records.push(words);
+    }
+    if version >= IN_ORDER {
+        if let Some(place) = misplaced(&records) {
+            return Err(refused(16, place));
+        }
     }
     Ok(records)
 }
@@ -145,13 +169,13 @@ pub fn survey(bytes: &[u8]) -> Result<Vec<Member>, Refused> {
 /// A vehicle file's class, track and axles.
 pub fn vehicle(bytes: &[u8]) -> Result<Vehicle, Refused> {
     let refused = |number, place| Refused { file: File::Vehicle, number, place };
-    let count = header(bytes, b"TBV", VEHICLE_HEADER, 16, 4).map_err(|n| refused(n, 0))?;
+    let (_, count) = header(bytes, &VEHICLE).map_err(|number| refused(number, 0))?;
     let (class, track) = (bytes[5], word(bytes, 6));
     if class > 1 || !within(track, 100, 300) {
         return Err(refused(7, 0));
     }
     let mut axles = Vec::with_capacity(count);
-    for (record, place) in bytes[VEHICLE_HEADER..].chunks_exact(4).zip(1..) {
+    for (record, place) in bytes[VEHICLE.header..].chunks_exact(VEHICLE.each).zip(1..) {
         let axle = Axle { weight: word(record, 0), distance: word(record, 2) };
         let (least, greatest) = if place == 1 { (0, 0) } else { (1, 2000) };
         if !within(axle.weight, 1, 60000) || !within(axle.distance, least, greatest) {
