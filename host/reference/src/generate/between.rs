@@ -6,9 +6,10 @@ use super::damage::{damage_survey, spoil, SurveyDamage};
 use super::disorder::{disorder, Disorder};
 use super::worse::grows;
 use super::{
-    full_survey, survey, survey_bytes, vehicle, worse_survey, Random, Spread, VehicleWords, Wear,
+    any_survey, full_survey, in_order, misplace, survey, survey_bytes_of, vehicle, worse_survey,
+    Misplaced, Random, Spread, VehicleWords, Wear,
 };
-use crate::layout::{used, Limit, Words, CLOSE_STRINGER, KIND, SECTION};
+use crate::layout::{used, Limit, Words, CLOSE_STRINGER, FREE_ORDER, IN_ORDER, KIND, SECTION};
 use crate::{reader, twin, Axle, Vehicle};
 
 /// So many members that each bear something, as on a bridge in use.
@@ -85,9 +86,26 @@ pub struct DamagedPair {
     pub place: u64,
 }
 
-/// The files of two surveys and their refusal.
-fn pair([first, second]: &[Vec<Words>; 2], number: u64, place: u64) -> DamagedPair {
-    DamagedPair { first: survey_bytes(first), second: survey_bytes(second), number, place }
+/// Two surveys of one bridge, both in order: matched records are in the same place still, as no
+/// number of the order wears and equals stay as they come.
+pub fn ordered_pair(ends: &[Vec<Words>; 2]) -> [Vec<Words>; 2] {
+    ends.each_ref().map(|records| in_order(records))
+}
+
+/// A version that has these records as they stand: either where they are in order.
+pub fn version_of(random: &mut Random, records: &[Words]) -> u16 {
+    let versions = [FREE_ORDER, IN_ORDER];
+    *random.pick(if in_order(records) == records { &versions } else { &versions[..1] })
+}
+
+fn versions_of(random: &mut Random, ends: &[Vec<Words>; 2]) -> [u16; 2] {
+    ends.each_ref().map(|records| version_of(random, records))
+}
+
+/// The files of two surveys in these versions and their refusal.
+fn pair(ends: &[Vec<Words>; 2], versions: [u16; 2], number: u64, place: u64) -> DamagedPair {
+    let [first, second] = [0, 1].map(|end| survey_bytes_of(versions[end], &ends[end]));
+    DamagedPair { first, second, number, place }
 }
 
 /// Not in order at this record, each way that it can be; often all behind it are not either.
@@ -104,13 +122,24 @@ fn disordered(random: &mut Random, sound: &[Vec<Words>; 2], i: usize) -> Vec<Dam
                 disorder(random, &mut first[behind], &mut second[behind], way);
             }
         }
-        all.push(pair(&[first, second], 15, i as u64 + 1));
+        let ends = [first, second];
+        all.push(pair(&ends, versions_of(random, &ends), 15, i as u64 + 1));
     }
     all
 }
 
-/// A record of one end that no survey has, in each way. What comes later is often wrong too: the
-/// second survey, where it is the first that is refused, the order of the first records, the count.
+/// What comes later than a fault of one end is often wrong too: the second survey, where it is the
+/// first that is refused, and the count.
+fn spoil_later(random: &mut Random, ends: &mut [Vec<Words>; 2], end: usize, i: usize) {
+    match random.below(3) {
+        0 if end == 0 => ends[1][random.below(i + 1)][KIND] = 0,
+        1 => ends[1 - end].truncate(1 + i),
+        _ => {}
+    }
+}
+
+/// A record of one end that no survey has, in each way; often with the first record another bridge's
+/// or with what comes later wrong.
 fn refused(random: &mut Random, sound: &[Vec<Words>; 2], i: usize) -> Vec<DamagedPair> {
     let mut all = Vec::new();
     for end in [0, 1] {
@@ -119,13 +148,31 @@ fn refused(random: &mut Random, sound: &[Vec<Words>; 2], i: usize) -> Vec<Damage
             if !damage_survey(random, &mut ends[end][i], damage) {
                 continue;
             }
-            match random.below(4) {
-                0 if i > 0 => ends[1][0] = ends[1][i - 1],
-                1 if end == 0 => ends[1][random.below(i + 1)][KIND] = 0,
-                2 => ends[1 - end].truncate(1 + i),
-                _ => {}
+            if i > 0 && random.once_in(4) {
+                ends[1][0] = ends[1][i - 1];
+            } else {
+                spoil_later(random, &mut ends, end, i);
             }
-            all.push(pair(&ends, damage.number(), i as u64 + 1));
+            all.push(pair(&ends, versions_of(random, sound), damage.number(), i as u64 + 1));
+        }
+    }
+    all
+}
+
+/// A record of one end before its predecessor, in each way: 16 in its own turn, which is before the
+/// second survey's refusals and before 15.
+fn misplaced(random: &mut Random, sound: &[Vec<Words>; 2], i: usize) -> Vec<DamagedPair> {
+    let mut all = Vec::new();
+    for end in [0, 1] {
+        for way in Misplaced::ALL {
+            let mut ends = ordered_pair(sound);
+            let mut versions = versions_of(random, &ends);
+            if !misplace(random, &mut ends[end], i, way) {
+                continue;
+            }
+            spoil_later(random, &mut ends, end, i);
+            versions[end] = IN_ORDER;
+            all.push(pair(&ends, versions, 16, i as u64 + 1));
         }
     }
     all
@@ -141,7 +188,7 @@ fn counted(random: &mut Random, sound: &[Vec<Words>; 2], i: usize) -> Vec<Damage
             let [first, second] = &mut ends;
             disorder(random, &mut first[0], &mut second[0], Disorder::Sounder);
         }
-        all.push(pair(&ends, 15, 0));
+        all.push(pair(&ends, versions_of(random, sound), 15, 0));
     }
     all
 }
@@ -150,13 +197,16 @@ fn counted(random: &mut Random, sound: &[Vec<Words>; 2], i: usize) -> Vec<Damage
 pub fn damaged_pairs(random: &mut Random) -> Vec<DamagedPair> {
     let first = full_survey(random, Spread::Wide);
     let second = worse_survey(random, &first, Wear::SameSpread, 0);
-    let sound = [first, second];
+    let free = [first, second];
+    let both = [ordered_pair(&free), free];
     let mut all = Vec::new();
-    for i in 0..sound[0].len() {
-        all.extend(disordered(random, &sound, i));
-        all.extend(refused(random, &sound, i));
+    for i in 0..64 {
+        let sound = random.pick(&both);
+        all.extend(disordered(random, sound, i));
+        all.extend(refused(random, sound, i));
         if i > 0 {
-            all.extend(counted(random, &sound, i));
+            all.extend(misplaced(random, sound, i));
+            all.extend(counted(random, sound, i));
         }
     }
     all
@@ -193,7 +243,11 @@ fn some_way(random: &mut Random, first: &Words) -> Disorder {
 pub fn some_pair_damage(random: &mut Random, most: usize) -> [Vec<u8>; 2] {
     let count = 1 + random.below(most);
     let spread = *random.pick(&[Spread::Wide, Spread::Usual]);
-    let mut first = survey(random, spread, count);
+    let mut first = any_survey(random, spread, count);
+    let ordered = !random.once_in(3);
+    if ordered {
+        first = in_order(&first);
+    }
     let mut second = worn(random, &first);
     for (one, other) in first.iter_mut().zip(&mut second) {
         if random.once_in(count + 1) {
@@ -205,7 +259,10 @@ pub fn some_pair_damage(random: &mut Random, most: usize) -> [Vec<u8>; 2] {
     if random.once_in(3) {
         damage(random, &mut ends);
     }
-    let mut files = ends.map(|records| survey_bytes(&records));
+    // Free order seldom has the version of the order: it is refused then.
+    let seldom = if ordered { 2 } else { 6 };
+    let version = |random: &mut Random| if random.once_in(seldom) { IN_ORDER } else { FREE_ORDER };
+    let mut files = ends.map(|records| survey_bytes_of(version(random), &records));
     if random.once_in(4) {
         let end = random.below(2);
         spoil(random, &mut files[end]);

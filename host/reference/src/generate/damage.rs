@@ -1,6 +1,7 @@
 //! Files that are refused: damaged in every way that has a number, at any place, and any bytes.
 
-use super::survey::{survey, survey_bytes};
+use super::order::{some_order, with_version, NO_VERSIONS};
+use super::survey::survey_bytes_of;
 use super::vehicle::{vehicle, vehicle_bytes, VehicleWords};
 use super::{Random, Spread};
 use crate::layout::*;
@@ -137,10 +138,11 @@ pub(super) fn spoil(random: &mut Random, bytes: &mut Vec<u8>) {
     }
 }
 
-/// A sound pair of files, then damaged one to four times in either file, fields and bytes alike.
+/// A sound pair of files but for the order of the records, then damaged up to four times in either
+/// file, fields and bytes alike.
 pub fn some_damage(random: &mut Random) -> (Vec<u8>, Vec<u8>) {
     let (members, axles) = (1 + random.below(4), 1 + random.below(4));
-    let mut records = survey(random, Spread::Wide, members);
+    let (version, mut records) = some_order(random, Spread::Wide, members);
     let mut words = vehicle(random, Spread::Wide, axles);
     for _ in 0..random.below(3) {
         let (place, damage) = (random.below(members), *random.pick(&SurveyDamage::ALL));
@@ -153,20 +155,23 @@ pub fn some_damage(random: &mut Random) -> (Vec<u8>, Vec<u8>) {
         let damage = *random.pick(&all);
         damage_vehicle(random, &mut words, damage);
     }
-    let (mut survey, mut vehicle) = (survey_bytes(&records), vehicle_bytes(&words));
-    match random.below(4) {
-        0 => spoil(random, &mut survey),
-        1 => spoil(random, &mut vehicle),
+    let (mut survey, mut vehicle) = (survey_bytes_of(version, &records), vehicle_bytes(&words));
+    match random.below(16) {
+        0..=3 => spoil(random, &mut survey),
+        4..=7 => spoil(random, &mut vehicle),
+        8 => survey = with_version(&survey, *random.pick(&NO_VERSIONS)),
+        9 => vehicle = with_version(&vehicle, *random.pick(&[IN_ORDER, 3, 257])),
         _ => {}
     }
     (survey, vehicle)
 }
 
-/// Any bytes up to this length; some of them with a sound mark and count in front.
+/// Any bytes up to this length; some of them with a mark and a survey's version in front.
 pub fn any_bytes(random: &mut Random, mark: &[u8; 3], longest: usize) -> Vec<u8> {
     let length = random.below(longest + 1);
     let mut bytes = random.bytes(length);
-    let header = [mark[0], mark[1], mark[2], 1, 0];
+    let version = *random.pick(&[1, 1, 2]);
+    let header = [mark[0], mark[1], mark[2], version, 0];
     let known = random.below(2) * header.len().min(length);
     bytes[..known].copy_from_slice(&header[..known]);
     bytes

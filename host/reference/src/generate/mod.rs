@@ -6,6 +6,7 @@ mod brink;
 mod corners;
 mod damage;
 mod disorder;
+mod order;
 mod places;
 mod random;
 mod survey;
@@ -15,18 +16,22 @@ mod worse;
 mod yard;
 
 pub use between::{
-    bearing_survey, damaged_pairs, some_entries, some_pair_damage, survey_between, vehicle_near,
-    worn, DamagedPair,
+    bearing_survey, damaged_pairs, ordered_pair, some_entries, some_pair_damage, survey_between,
+    vehicle_near, version_of, worn, DamagedPair,
 };
 pub use border::at_seven_stringers;
 pub use brink::at_the_limit;
 pub use corners::corners;
 pub use damage::{any_bytes, some_damage};
 pub use disorder::{disorder, Disorder};
+pub use order::{
+    alike_survey, any_survey, full_survey_file, in_order, misplace, misplaced_surveys, one_before,
+    some_version, survey_file, with_version, wrong_versions, Misplaced, NO_VERSIONS,
+};
 pub use places::{damaged_surveys, damaged_vehicles, Damaged};
 pub use random::Random;
-pub use survey::{full_survey, survey, survey_bytes, Spread};
+pub use survey::{full_survey, survey, survey_bytes, survey_bytes_of, Spread};
 pub use tie::at_a_tie;
 pub use vehicle::{vehicle, vehicle_bytes, AxleWords, VehicleWords};
-pub use worse::{worse_survey, worse_vehicle, Wear};
+pub use worse::{matched_survey, worse_survey, worse_vehicle, Matched, Wear};
 pub use yard::{damaged_yards, joined, some_yard_damage, yard, yard_bytes, DamagedYard};

@@ -53,6 +53,11 @@ impl Random {
         &all[self.below(all.len())]
     }
 
+    /// These in any order.
+    pub fn shuffle<T>(&mut self, all: &mut [T]) {
+        (1..all.len()).for_each(|i| all.swap(i, self.below(i + 1)));
+    }
+
     /// So many random bytes.
     pub fn bytes(&mut self, length: usize) -> Vec<u8> {
         let mut bytes = Vec::with_capacity(length + 8);

@@ -1,7 +1,9 @@
 //! Bridges on which two members have the least margin, most often with unlike loads: only the order
 //! of the records says which of them governs.
 
-use super::{survey, survey_bytes, vehicle, vehicle_bytes, Random, Spread, VehicleWords};
+use super::{
+    some_version, survey, survey_bytes, vehicle, vehicle_bytes, Random, Spread, VehicleWords,
+};
 use crate::layout::{Words, DEAD_LOAD};
 use crate::{reader, twin, Vehicle};
 
@@ -44,5 +46,5 @@ pub fn at_a_tie(random: &mut Random) -> Option<(Vec<u8>, VehicleWords)> {
     let mut others = (0..count).map(|i| (first + i) % count).filter(|&i| margins[i] > least);
     let (i, tied) = others.find_map(|i| Some((i, with_margin(&members[i], &vehicle, least)?)))?;
     members[i] = tied;
-    Some((survey_bytes(&members), words))
+    Some((some_version(random, &members), words))
 }

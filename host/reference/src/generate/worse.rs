@@ -3,7 +3,7 @@
 
 use super::survey::survey;
 use super::{vehicle, Random, Spread, VehicleWords};
-use crate::layout::{is_rot, used, wears, Words, CLOSE_STRINGER, KIND, SECTION};
+use crate::layout::*;
 
 /// A number that stays, grows by 1 or grows as far as its range goes.
 fn grown(random: &mut Random, value: u16, greatest: u16) -> u16 {
@@ -43,6 +43,33 @@ pub fn worse_survey(random: &mut Random, members: &[Words], wear: Wear, more: us
     let added = random.below((64 - members.len()).min(more) + 1);
     worse.extend(survey(random, Spread::Usual, added));
     worse
+}
+
+/// A worse survey whose records stand in other places than those of the first.
+pub struct Matched {
+    pub records: Vec<Words>,
+    /// Where the record that each record of the first is matched with stands, from 0.
+    pub partners: Vec<usize>,
+}
+
+/// A worse survey with its records, the added ones among them, in any places; or in the places
+/// that the order of this version gives them, equals in any.
+pub fn matched_survey(
+    random: &mut Random,
+    members: &[Words],
+    wear: Wear,
+    more: usize,
+    version: u16,
+) -> Matched {
+    let worse = worse_survey(random, members, wear, more);
+    let mut places: Vec<usize> = (0..worse.len()).collect();
+    random.shuffle(&mut places);
+    if version == IN_ORDER {
+        places.sort_by_key(|&i| standing(&worse[i]));
+    }
+    let partner = |i| places.iter().position(|&other| other == i).expect("every record is placed");
+    let partners = (0..members.len()).map(partner).collect();
+    Matched { records: places.iter().map(|&i| worse[i]).collect(), partners }
 }
 
 /// The same axles, none lighter, and up to `more` others behind them.
