@@ -73,14 +73,21 @@ pub fn full_survey_file(random: &mut Random, spread: Spread) -> Vec<u8> {
     some_version(random, &members)
 }
 
-/// So many members and a version: in order mostly, where it is that of the order.
+/// So many members and a version; where it is that of the order they are in it, or one record or
+/// any of them is not.
 pub(super) fn some_order(random: &mut Random, spread: Spread, count: usize) -> (u16, Vec<Words>) {
     let members = any_survey(random, spread, count);
     match random.below(8) {
-        0 => (IN_ORDER, members),
-        1..=4 => (IN_ORDER, in_order(&members)),
-        _ => (FREE_ORDER, members),
+        0..=2 => return (FREE_ORDER, members),
+        3 => return (IN_ORDER, members),
+        _ => {}
     }
+    let mut ordered = in_order(&members);
+    if count > 1 && random.once_in(3) {
+        let (i, way) = (1 + random.below(count - 1), *random.pick(&Misplaced::ALL));
+        misplace(random, &mut ordered, i, way);
+    }
+    (IN_ORDER, ordered)
 }
 
 /// The word by which a record stands before its predecessor; those before it in the order are the
