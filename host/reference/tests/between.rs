@@ -29,7 +29,13 @@ fn case_a(rot: u16) -> Words {
 
 /// Two surveys under case L, with a list of so many entries.
 fn call(first: &[Words], second: &[Words], entries: usize) -> Call {
-    let (first, second) = (survey_bytes(first), survey_bytes(second));
+    call_of([FREE_ORDER; 2], first, second, entries)
+}
+
+/// The same of these versions.
+fn call_of(versions: [u16; 2], first: &[Words], second: &[Words], entries: usize) -> Call {
+    let first = survey_bytes_of(versions[0], first);
+    let second = survey_bytes_of(versions[1], second);
     Call { vehicle: Some(case_l()), first, second, entries }
 }
 
@@ -113,7 +119,8 @@ fn every_survey_between_is_within_the_bounds() {
         };
         let second = worn(&mut random, &first);
         let vehicle = vehicle_near(&mut random, &first, &second);
-        let [one, other] = [&first, &second].map(|records| survey_bytes(records));
+        let [one, other] =
+            [&first, &second].map(|records| file_as_they_stand(&mut random, records));
         let answer = between(Some(&read(&vehicle)), &one, &other, 2 * count);
         let answer = answer.unwrap_or_else(|refused| panic!("{what}: {refused:?}"));
         let ends = [&first, &second].map(|records| judged(records, &vehicle));
@@ -289,6 +296,52 @@ fn the_order_of_refusals() {
     assert_eq!(order(&[sound], &[worn], 1), Err((14, 0)));
 }
 
+/// Two stringers that the order has in these places, each with this rot.
+fn two(spans: [u16; 2], rot: u16) -> [Words; 2] {
+    spans.map(|span| {
+        let mut words = case_a(rot);
+        words[SPAN] = span;
+        words
+    })
+}
+
+/// "Two surveys that are taken together may differ in version": the answer is that of version 1.
+#[test]
+fn surveys_of_any_two_versions() {
+    let (first, second) = (two([400, 500], 0), two([400, 500], 1));
+    let answer = said(&call(&first, &second, 4));
+    assert!(answer.as_ref().is_ok_and(|(_, bounds)| bounds[1] == (1343, 1720)), "{answer:?}");
+    for versions in [[1, 2], [2, 1], [2, 2]] {
+        assert_eq!(said(&call_of(versions, &first, &second, 4)), answer, "{versions:?}");
+    }
+}
+
+/// 16 in its survey's own turn: behind 12 and the first's refusals, before the second's, 15 and 14.
+#[test]
+fn a_survey_out_of_order_is_refused_in_its_turn() {
+    let (rising, falling) = (two([400, 500], 0), two([500, 400], 0));
+    let mut faulty = two([400, 500], 1);
+    faulty[1][KIND] = 0;
+    let said = |versions, first: &[Words], second: &[Words], entries| {
+        said(&call_of(versions, first, second, entries)).map(|_| ())
+    };
+    let late = Err((16, 2));
+    assert_eq!(said([2, 1], &falling, &falling, 4), late, "the first");
+    assert_eq!(said([1, 2], &falling, &falling, 4), late, "the second");
+    assert_eq!(said([1, 1], &falling, &falling, 4), Ok(()), "free order");
+    assert_eq!(said([2, 1], &falling, &faulty, 0), late, "the first's before the second's");
+    assert_eq!(said([2, 1], &falling, &rising[..1], 0), late, "before a different count");
+    assert_eq!(said([1, 2], &rising, &falling, 0), late, "before 15 and 14");
+    assert_eq!(said([1, 2], &rising[..1], &falling, 0), late, "before a different count");
+    assert_eq!(said([1, 2], &faulty, &falling, 4), Err((4, 2)), "behind the first's");
+    let last = [falling[0], falling[0], falling[1]];
+    assert_eq!(said([2, 2], &last, &falling, 4), Err((16, 3)), "the first's own place");
+    for versions in [[2, 1], [1, 2], [2, 2]] {
+        let without = Call { vehicle: None, ..call_of(versions, &falling, &falling, 4) };
+        assert_eq!(self::said(&without), Err((12, 0)), "12 before it");
+    }
+}
+
 /// Own refusals of the whole file: its length, mark and count, place 0.
 #[test]
 fn files_that_are_no_surveys() {
@@ -319,7 +372,7 @@ fn each_damage_has_its_number_and_place() {
     for place in 0..=64 {
         assert!(seen.get(&(15, place)).is_some_and(|&times| times >= 6), "15 at {place}");
     }
-    for number in 4..=8 {
+    for number in [4, 5, 6, 7, 8, 16] {
         assert!(seen.keys().filter(|key| key.0 == number).count() > 50, "{number}: {seen:?}");
     }
 }
@@ -358,7 +411,7 @@ fn some_damage_of_every_sort() {
         let answer = said(&Call { vehicle, first, second, entries });
         *seen.entry(answer.err().map_or(0, |refused| refused.0)).or_insert(0) += 1;
     }
-    for number in [0, 1, 2, 3, 4, 5, 6, 7, 8, 14, 15] {
+    for number in [0, 1, 2, 3, 4, 5, 6, 7, 8, 14, 15, 16] {
         assert!(seen.get(&number).is_some_and(|&times| times > 100), "{number}: {seen:?}");
     }
 }

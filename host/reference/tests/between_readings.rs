@@ -27,9 +27,11 @@ enum Wrong {
     ListBeforeOrder,
     OneEntryAMember,
     CountAtPlaceOne,
+    MisplacedAfterSecond,
+    MisplacedAfterOrder,
 }
 
-const WRONG: [Wrong; 16] = [
+const WRONG: [Wrong; 18] = [
     Wrong::LowestAndHighestExchanged,
     Wrong::UndecidedWhenBothRefuse,
     Wrong::VerdictOfTheFirstEnd,
@@ -46,6 +48,8 @@ const WRONG: [Wrong; 16] = [
     Wrong::ListBeforeOrder,
     Wrong::OneEntryAMember,
     Wrong::CountAtPlaceOne,
+    Wrong::MisplacedAfterSecond,
+    Wrong::MisplacedAfterOrder,
 ];
 
 /// The words of a file as they stand, whether it is acceptable or not.
@@ -95,7 +99,10 @@ fn refusal(wrong: Option<Wrong>, call: &Call) -> Option<(u64, u64)> {
         out_of_order(wrong, &first, &second),
         (call.entries < each * first.len()).then_some((14, 0)),
     ];
+    let late = |test: Option<(u64, u64)>| test.is_some_and(|refused| refused.0 == 16);
     match wrong {
+        Some(Wrong::MisplacedAfterSecond) if late(tests[1]) => tests.swap(1, 2),
+        Some(Wrong::MisplacedAfterOrder) if late(tests[2]) => tests.swap(2, 3),
         Some(Wrong::VehicleLast) => tests.rotate_left(1),
         Some(Wrong::SecondBeforeFirst) => tests.swap(1, 2),
         Some(Wrong::OrderBeforeSecond) => tests.swap(2, 3),
@@ -140,7 +147,7 @@ fn some_call(random: &mut Random) -> Call {
     let second = worn(random, &first);
     let vehicle = read(&vehicle_near(random, &first, &second));
     let files = match random.below(2) {
-        0 => [survey_bytes(&first), survey_bytes(&second)],
+        0 => [&first, &second].map(|records| file_as_they_stand(random, records)),
         _ => some_pair_damage(random, count),
     };
     let [first, second] = files;

@@ -239,3 +239,31 @@ fn some_damage_of_every_sort() {
         assert!(seen.get(&what).is_some_and(|&times| times > 50), "{what:?}: {seen:?}");
     }
 }
+
+/// Every record of the first survey has a partner of its own that is it, worn; the others are
+/// added. In either version partners stand in other places, and added ones before them.
+#[test]
+fn worse_surveys_with_records_in_other_places() {
+    let mut random = Random::new(0x02de_0008);
+    let (mut moved, mut added_before) = ([0; 2], [0; 2]);
+    for round in 0..2000 {
+        let version = if round % 2 == 0 { FREE_ORDER } else { IN_ORDER };
+        let first = in_order(&any_survey(&mut random, Spread::Usual, 5));
+        let Matched { records, partners } =
+            matched_survey(&mut random, &first, Wear::SameSpread, 3, version);
+        assert!(reader::records(&survey_bytes_of(version, &records)).is_ok(), "round {round}");
+        for (one, &partner) in first.iter().zip(&partners) {
+            let other = &records[partner];
+            assert!((0..16).all(|i| one[i] == other[i] || wears(one, i) && one[i] < other[i]));
+        }
+        let mut places = partners.clone();
+        places.sort_unstable();
+        places.dedup();
+        assert_eq!(places.len(), first.len(), "no two with the same");
+        let end = usize::from(version - 1);
+        moved[end] += u32::from(partners.iter().enumerate().any(|(i, &partner)| partner != i));
+        added_before[end] += u32::from(places.last() > Some(&4));
+    }
+    assert!(moved.iter().all(|&times| times > 500), "{moved:?}");
+    assert!(added_before.iter().all(|&times| times > 500), "{added_before:?}");
+}

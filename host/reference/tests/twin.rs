@@ -11,7 +11,7 @@ fn the_twin_agrees_with_brute_force() {
     for round in 0..4000 {
         let spread = if round % 2 == 0 { Spread::Wide } else { Spread::Usual };
         let (members, axles) = (1 + random.below(6), 1 + random.below(16));
-        let survey = survey_bytes(&survey(&mut random, spread, members));
+        let survey = survey_file(&mut random, spread, members);
         let vehicle = vehicle_bytes(&vehicle(&mut random, spread, axles));
         let (fast, slow) = (twin::judge(&survey, &vehicle), judge(&survey, &vehicle));
         assert!(slow.is_ok(), "seed {SEED:#x}, round {round}: {slow:?}");
@@ -107,6 +107,16 @@ fn the_twin_refuses_alike() {
         let (survey, vehicle) = some_damage(&mut random);
         let (fast, slow) = (twin::judge(&survey, &vehicle), judge(&survey, &vehicle));
         assert_eq!(fast, slow, "seed {SEED:#x}, round {round}");
+    }
+}
+
+#[test]
+fn the_twin_refuses_records_out_of_order() {
+    let mut random = Random::new(0x771b);
+    for all in [misplaced_surveys(&mut random), wrong_versions(&mut random)] {
+        for Damaged { survey, vehicle, refusal } in all {
+            assert_eq!(twin::judge(&survey, &vehicle), Err(refusal));
+        }
     }
 }
 

@@ -93,9 +93,14 @@ pub fn ordered_pair(ends: &[Vec<Words>; 2]) -> [Vec<Words>; 2] {
 }
 
 /// A version that has these records as they stand: either where they are in order.
-pub fn version_of(random: &mut Random, records: &[Words]) -> u16 {
+fn version_of(random: &mut Random, records: &[Words]) -> u16 {
     let versions = [FREE_ORDER, IN_ORDER];
     *random.pick(if in_order(records) == records { &versions } else { &versions[..1] })
+}
+
+/// The file of these records as they stand.
+pub fn file_as_they_stand(random: &mut Random, records: &[Words]) -> Vec<u8> {
+    survey_bytes_of(version_of(random, records), records)
 }
 
 fn versions_of(random: &mut Random, ends: &[Vec<Words>; 2]) -> [u16; 2] {
@@ -212,13 +217,21 @@ pub fn damaged_pairs(random: &mut Random) -> Vec<DamagedPair> {
     all
 }
 
-/// One more record or one less at an end, and records of either end that no survey has.
+/// One more record or one less at an end, records of either end that are not in order, then such as
+/// no survey has.
 fn damage(random: &mut Random, ends: &mut [Vec<Words>; 2]) {
     let end = random.below(2);
     match random.below(3) {
         0 => ends[end].extend(survey(random, Spread::Usual, 1)),
         1 => ends[end].truncate(ends[end].len() - 1),
         _ => {}
+    }
+    for _ in 0..random.below(3) {
+        let records = &mut ends[random.below(2)];
+        if records.len() > 1 {
+            let (i, way) = (1 + random.below(records.len() - 1), *random.pick(&Misplaced::ALL));
+            misplace(random, records, i, way);
+        }
     }
     for _ in 0..random.below(3) {
         let records = &mut ends[random.below(2)];

@@ -16,8 +16,8 @@ mod worse;
 mod yard;
 
 pub use between::{
-    bearing_survey, damaged_pairs, ordered_pair, some_entries, some_pair_damage, survey_between,
-    vehicle_near, version_of, worn, DamagedPair,
+    bearing_survey, damaged_pairs, file_as_they_stand, ordered_pair, some_entries,
+    some_pair_damage, survey_between, vehicle_near, worn, DamagedPair,
 };
 pub use border::at_seven_stringers;
 pub use brink::at_the_limit;
