@@ -8,6 +8,7 @@ mod crescents;
 mod document;
 mod edges;
 mod margins;
+mod order;
 mod records;
 mod state;
 mod survey_faults;
@@ -30,6 +31,7 @@ fn script() -> Script {
     yard::cases(&mut script);
     margins::cases(&mut script);
     between::cases(&mut script);
+    order::cases(&mut script);
     script
 }
 
