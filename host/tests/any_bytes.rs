@@ -4,6 +4,7 @@ mod common;
 
 use common::{expected, library, seed};
 use reference::generate::*;
+use reference::layout::IN_ORDER;
 
 const DAMAGED: u64 = 500_000;
 const LONGEST: usize = 2500;
@@ -21,6 +22,31 @@ fn damaged_files() {
         let (survey, vehicle) = some_damage(&mut Random::new(seed));
         agree(&survey, &vehicle, seed);
     }
+}
+
+/// Records of version 2 that all but stand in order: every pair of neighbours exchanged, and any
+/// byte changed.
+#[test]
+fn records_all_but_in_order() {
+    let first = seed(0xda3_0004);
+    let mut refused = 0;
+    for seed in first..first + SHORT {
+        let mut random = Random::new(seed);
+        let count = 2 + random.below(7);
+        let mut records = in_order(&alike_survey(&mut random, Spread::Usual, count));
+        let place = 1 + random.below(count - 1);
+        records.swap(place - 1, place);
+        let mut survey = survey_bytes_of(IN_ORDER, &records);
+        if random.once_in(4) {
+            let at = random.below(survey.len());
+            survey[at] = survey[at].wrapping_add(1);
+        }
+        let vehicle = vehicle_bytes(&vehicle(&mut random, Spread::Usual, 1));
+        agree(&survey, &vehicle, seed);
+        refused +=
+            u64::from(expected(&survey, &vehicle).is_err_and(|refused| refused.number == 16));
+    }
+    assert!(SHORT / 4 < refused && refused < SHORT, "{refused} are out of order");
 }
 
 /// Longer than any survey: a survey has at most 2054 bytes, a vehicle 73.
@@ -41,7 +67,7 @@ fn random_bytes_of_every_length() {
 fn random_bytes_behind_a_sound_mark() {
     let first = seed(0xda3_0003);
     let mut random = Random::new(first);
-    let sound = survey_bytes(&survey(&mut random, Spread::Usual, 1));
+    let sound = survey_file(&mut random, Spread::Usual, 2);
     for seed in first..first + SHORT {
         let mut random = Random::new(seed);
         let survey = any_bytes(&mut random, b"TBR", 120);

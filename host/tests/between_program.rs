@@ -15,7 +15,7 @@ const SCRIPTS: u64 = 6;
 /// A round of calls is shorter than this: a survey, twelve calls and what is between them.
 const LONGEST_ROUND: usize = 60_000;
 
-/// Two surveys of one bridge: mostly small, as brute force is dear.
+/// Two surveys of one bridge: mostly small, as brute force is dear; half of them in order.
 fn two_surveys(random: &mut Random) -> [Vec<Words>; 2] {
     let members = 1 + random.below(4);
     let first = match random.below(60) {
@@ -24,7 +24,17 @@ fn two_surveys(random: &mut Random) -> [Vec<Words>; 2] {
         _ => bearing_survey(random, members),
     };
     let second = worn(random, &first);
-    [first, second]
+    let pair = [first, second];
+    if random.once_in(2) {
+        ordered_pair(&pair)
+    } else {
+        pair
+    }
+}
+
+/// The files of two surveys as they stand, each of any version that has them so.
+fn files(random: &mut Random, first: &[Words], second: &[Words]) -> [Vec<u8>; 2] {
+    [first, second].map(|records| file_as_they_stand(random, records))
 }
 
 /// Two surveys of one bridge, often with a vehicle that one of them just bears loaded before.
@@ -34,11 +44,14 @@ fn one_bridge(random: &mut Random, script: &mut Script) {
         script.vehicle(&vehicle_bytes(&vehicle_near(random, &first, &second)));
     }
     let entries = some_entries(random, first.len());
-    script.between(&survey_bytes(&first), &survey_bytes(&second), entries);
+    let mut ends = vec![[&first, &second]];
+    let middle = survey_between(random, &first, &second);
     if random.once_in(4) {
-        let middle = survey_between(random, &first, &second);
-        script.between(&survey_bytes(&first), &survey_bytes(&middle), entries);
-        script.between(&survey_bytes(&middle), &survey_bytes(&second), entries);
+        ends.extend([[&first, &middle], [&middle, &second]]);
+    }
+    for [first, second] in ends {
+        let [first, second] = files(random, first, second);
+        script.between(&first, &second, entries);
     }
 }
 
@@ -87,7 +100,8 @@ fn the_scripts_have_every_answer() {
     println!("{seen:?}");
     assert!(seen.values().sum::<u64>() > 4000, "{seen:?}");
     hold_often(&seen, &["all", "none", "undecided"], 200);
-    let refusals = [1, 2, 3, 4, 5, 6, 7, 8, 12, 14, 15].map(|number| format!("refused {number}"));
+    let refusals =
+        [1, 2, 3, 4, 5, 6, 7, 8, 12, 14, 15, 16].map(|number| format!("refused {number}"));
     hold_often(&seen, &refusals.each_ref().map(String::as_str), 20);
 }
 
@@ -120,11 +134,12 @@ fn full_surveys() {
     let seed = seed(0xbe20_1003);
     let (mut random, mut script) = (Random::new(seed), Script::default());
     while script.bytes.len() < 200_000 {
-        let first = bearing_survey(&mut random, 64);
+        let first = in_order(&bearing_survey(&mut random, 64));
         let second = worn(&mut random, &first);
         script.vehicle(&vehicle_bytes(&vehicle_near(&mut random, &first, &second)));
         let entries = *random.pick(&[127, 128, 129, 160]);
-        script.between(&survey_bytes(&first), &survey_bytes(&second), entries);
+        let [first, second] = files(&mut random, &first, &second);
+        script.between(&first, &second, entries);
     }
     agree(&script, &format!("TBR_SEED={seed}"));
 }
@@ -139,7 +154,8 @@ fn verdicts_turn_at_the_limits() {
         let second = worn(&mut random, &first);
         for _ in 0..4 {
             script.vehicle(&vehicle_bytes(&vehicle_near(&mut random, &first, &second)));
-            script.between(&survey_bytes(&first), &survey_bytes(&second), 2);
+            let [first, second] = files(&mut random, &first, &second);
+            script.between(&first, &second, 2);
         }
     }
     agree(&script, &format!("TBR_SEED={seed}"));

@@ -1,13 +1,16 @@
 //! Demand 3 by trial: with deeper rot, more lost area, more dead load, heavier axles, members and
 //! axles added, no vehicle load falls; and where every closely spaced stringer has the same rot in
 //! both surveys, that of its deck included, no permitted load rises, the figure does not rise, and
-//! what is refused, a member or the bridge, does not pass.
+//! what is refused, a member or the bridge, does not pass. The shared members are in the same
+//! places, or matched wherever they stand, in surveys of either version.
 
 mod common;
 
 use common::seed;
+use reference::between::is_ordered;
 use reference::generate::*;
 use reference::layout::*;
+use std::collections::BTreeMap;
 use tbr::{Judgement, MemberLoads};
 
 const PAIRS: u64 = 20_000;
@@ -19,32 +22,51 @@ struct Bridge {
 }
 
 fn judged(members: &[Words], vehicle: &VehicleWords, seed: u64) -> Bridge {
-    let (survey, vehicle) = (survey_bytes(members), vehicle_bytes(vehicle));
-    let judgement = tbr::judge(&survey, &vehicle);
-    match judgement.and_then(|judgement| Ok((judgement, tbr::member_loads(&survey, &vehicle)?))) {
+    judged_file(&survey_bytes(members), vehicle, seed)
+}
+
+fn judged_file(survey: &[u8], vehicle: &VehicleWords, seed: u64) -> Bridge {
+    let vehicle = vehicle_bytes(vehicle);
+    let judgement = tbr::judge(survey, &vehicle);
+    match judgement.and_then(|judgement| Ok((judgement, tbr::member_loads(survey, &vehicle)?))) {
         Ok((judgement, members)) => Bridge { judgement, members },
         Err(refusal) => panic!("TBR_SEED={seed}: {refusal}"),
     }
 }
 
-/// Whatever wears: the vehicle loads of the shared members.
-fn never_lighter(first: &Bridge, second: &Bridge, seed: u64) {
-    assert!(first.members.len() <= second.members.len(), "TBR_SEED={seed}");
-    for (one, other) in first.members.iter().zip(&second.members) {
-        assert!(other.vehicle >= one.vehicle, "TBR_SEED={seed}: {one:?} then {other:?}");
-    }
+/// Shared members that stand in the same places.
+fn same_places(first: &Bridge) -> Vec<usize> {
+    (0..first.members.len()).collect()
+}
+
+/// Each member of the first bridge with its partner in the second, which stands there.
+fn shared<'a>(
+    first: &'a Bridge,
+    second: &'a Bridge,
+    partners: &'a [usize],
+) -> impl Iterator<Item = (&'a MemberLoads, &'a MemberLoads)> {
+    assert_eq!(first.members.len(), partners.len());
+    first.members.iter().zip(partners.iter().map(|&partner| &second.members[partner]))
+}
+
+/// Whatever wears: the vehicle load of a shared member.
+fn no_lighter(one: &MemberLoads, other: &MemberLoads, seed: u64) {
+    assert!(other.vehicle >= one.vehicle, "TBR_SEED={seed}: {one:?} then {other:?}");
+}
+
+/// A shared member of which the second is the first, worn.
+fn no_better(one: &MemberLoads, other: &MemberLoads, seed: u64) {
+    no_lighter(one, other, seed);
+    assert!(other.permitted <= one.permitted, "TBR_SEED={seed}: {one:?} then {other:?}");
+    assert!(one.passes || !other.passes, "TBR_SEED={seed}: {one:?} then {other:?}");
 }
 
 /// The first bridge and its worse second, compared with its shared members.
-fn never_better(first: &Bridge, second: &Bridge, seed: u64) {
+fn never_better(first: &Bridge, second: &Bridge, partners: &[usize], seed: u64) {
     let (one, other) = (&first.judgement, &second.judgement);
     assert!(other.figure <= one.figure, "TBR_SEED={seed}: {one:?} then {other:?}");
     assert!(one.passes || !other.passes, "TBR_SEED={seed}: {one:?} then {other:?}");
-    never_lighter(first, second, seed);
-    for (one, other) in first.members.iter().zip(&second.members) {
-        assert!(other.permitted <= one.permitted, "TBR_SEED={seed}: {one:?} then {other:?}");
-        assert!(one.passes || !other.passes, "TBR_SEED={seed}: {one:?} then {other:?}");
-    }
+    shared(first, second, partners).for_each(|(one, other)| no_better(one, other, seed));
 }
 
 #[test]
@@ -61,7 +83,7 @@ fn worse_files_never_rate_better() {
         let heavier = worse_vehicle(&mut random, &vehicle, 3);
         let first = judged(&members, &vehicle, seed);
         let second = judged(&worse, &heavier, seed);
-        never_better(&first, &second, seed);
+        never_better(&first, &second, &same_places(&first), seed);
         lower += u32::from(second.judgement.figure < first.judgement.figure);
         turned += u32::from(first.judgement.passes && !second.judgement.passes);
     }
@@ -80,8 +102,184 @@ fn worse_full_files_never_rate_better() {
         let heavier = worse_vehicle(&mut random, &vehicle, 4);
         let first = judged(&members, &vehicle, seed);
         let second = judged(&worse, &heavier, seed);
-        never_better(&first, &second, seed);
+        never_better(&first, &second, &same_places(&first), seed);
     }
+}
+
+/// Two surveys of any versions: the records of the second stand in any places or in those of the
+/// order, and the partner of each record of the first is known.
+struct TwoSurveys {
+    versions: [u16; 2],
+    first: Vec<Words>,
+    second: Matched,
+}
+
+impl TwoSurveys {
+    fn new(random: &mut Random, members: &[Words], wear: Wear, more: usize) -> TwoSurveys {
+        let versions = [0, 1].map(|_| *random.pick(&[FREE_ORDER, IN_ORDER]));
+        let first = if versions[0] == IN_ORDER { in_order(members) } else { members.to_vec() };
+        let second = matched_survey(random, &first, wear, more, versions[1]);
+        TwoSurveys { versions, first, second }
+    }
+
+    /// Both judged, the second under the second vehicle.
+    fn judged(&self, vehicles: [&VehicleWords; 2], seed: u64) -> [Bridge; 2] {
+        let records = [&self.first, &self.second.records];
+        [0, 1].map(|end| {
+            let file = survey_bytes_of(self.versions[end], records[end]);
+            judged_file(&file, vehicles[end], seed)
+        })
+    }
+
+    /// How many partners stand in another place.
+    fn moved(&self) -> usize {
+        self.second.partners.iter().enumerate().filter(|(i, partner)| i != *partner).count()
+    }
+
+    /// Every other match there is: two records of which the second is the first, worn, and which
+    /// are no partners.
+    fn other_matches(&self) -> Vec<[usize; 2]> {
+        let mut all = Vec::new();
+        for (i, one) in self.first.iter().enumerate() {
+            for (j, other) in self.second.records.iter().enumerate() {
+                if j != self.second.partners[i] && is_ordered(one, other) {
+                    all.push([i, j]);
+                }
+            }
+        }
+        all
+    }
+}
+
+/// The members of a survey, often some of them twice, so that there is more than one matching.
+fn some_members(random: &mut Random, most: usize) -> Vec<Words> {
+    let spread = if random.once_in(4) { Spread::Wide } else { Spread::Usual };
+    let count = 1 + random.below(most);
+    let mut members = any_survey(random, spread, count);
+    if random.once_in(2) {
+        let twice = *random.pick(&members);
+        members.push(twice);
+    }
+    members
+}
+
+/// What the pairs of surveys were.
+#[derive(Default)]
+struct Seen {
+    versions: BTreeMap<[u16; 2], u64>,
+    moved: usize,
+    kept: usize,
+    other_matches: usize,
+    lower: u32,
+    turned: u32,
+}
+
+impl Seen {
+    fn add(&mut self, surveys: &TwoSurveys, first: &Bridge, second: &Bridge) {
+        *self.versions.entry(surveys.versions).or_default() += 1;
+        self.moved += surveys.moved();
+        self.kept += surveys.first.len() - surveys.moved();
+        self.other_matches += surveys.other_matches().len();
+        self.lower += u32::from(second.judgement.figure < first.judgement.figure);
+        self.turned += u32::from(first.judgement.passes && !second.judgement.passes);
+    }
+
+    /// The pairs are worth something only if records move, in all four pairs of versions.
+    fn hold(&self, pairs: u64) {
+        let Seen { versions, moved, kept, other_matches, lower, turned } = self;
+        assert_eq!(versions.len(), 4, "{versions:?}");
+        assert!(versions.values().all(|&times| times > pairs / 5), "{versions:?}");
+        assert!(moved > kept && *other_matches > 200, "{moved} moved, {other_matches} others");
+        assert!(u64::from(*lower) > pairs / 20, "{lower} figures fell, {turned} verdicts turned");
+    }
+}
+
+/// One pair of worse files, whatever the places.
+fn matched_pair(seen: &mut Seen, random: &mut Random, members: &[Words], more: usize, seed: u64) {
+    let axles = 1 + random.below(6);
+    let vehicle = vehicle(random, Spread::Usual, axles);
+    let heavier = worse_vehicle(random, &vehicle, 3);
+    let surveys = TwoSurveys::new(random, members, Wear::SameSpread, more);
+    let [first, second] = surveys.judged([&vehicle, &heavier], seed);
+    never_better(&first, &second, &surveys.second.partners, seed);
+    for [i, j] in surveys.other_matches() {
+        no_better(&first.members[i], &second.members[j], seed);
+    }
+    seen.add(&surveys, &first, &second);
+}
+
+/// "for every way of matching each record of the first with one of the second, no two with the
+/// same, whatever their places and versions"
+#[test]
+fn worse_matched_files_never_rate_better() {
+    let start = seed(0xfa11_0004);
+    let mut seen = Seen::default();
+    for seed in start..start + PAIRS {
+        let mut random = Random::new(seed);
+        let members = some_members(&mut random, 6);
+        matched_pair(&mut seen, &mut random, &members, 4, seed);
+    }
+    seen.hold(PAIRS);
+    assert!(seen.turned > 100, "{} verdicts turned", seen.turned);
+}
+
+/// The largest surveys: up to 64 members, some of them added.
+#[test]
+fn worse_matched_full_files_never_rate_better() {
+    const FULL: u64 = 400;
+    let start = seed(0xfa11_0005);
+    let mut seen = Seen::default();
+    for seed in start..start + FULL {
+        let mut random = Random::new(seed);
+        let members = full_survey(&mut random, Spread::Usual);
+        let count = *random.pick(&[40, 63, 64]);
+        matched_pair(&mut seen, &mut random, &members[..count], 24, seed);
+    }
+    seen.hold(FULL);
+}
+
+/// Any wear of matched records: no vehicle load falls, and only closely spaced stringers may bear
+/// more.
+#[test]
+fn vehicle_loads_of_matched_records_never_fall() {
+    let start = seed(0xfa11_0006);
+    let (mut moved, mut heavier) = (0, 0);
+    for seed in start..start + PAIRS {
+        let mut random = Random::new(seed);
+        let (members, axles) = (some_members(&mut random, 4), 1 + random.below(4));
+        let vehicle = vehicle(&mut random, Spread::Usual, axles);
+        let heavier_vehicle = worse_vehicle(&mut random, &vehicle, 3);
+        let surveys = TwoSurveys::new(&mut random, &members, Wear::Any, 3);
+        let [first, second] = surveys.judged([&vehicle, &heavier_vehicle], seed);
+        let pairs = shared(&first, &second, &surveys.second.partners);
+        for (words, (one, other)) in surveys.first.iter().zip(pairs) {
+            no_lighter(one, other, seed);
+            let rises = other.permitted > one.permitted;
+            assert!(!rises || words[KIND] == CLOSE_STRINGER, "TBR_SEED={seed}: {words:?}");
+            heavier += u32::from(other.vehicle > one.vehicle);
+        }
+        moved += surveys.moved();
+    }
+    assert!(moved > 20_000 && heavier > 10_000, "{moved} moved, {heavier} vehicle loads rose");
+}
+
+/// By hand: case A and the cross beam of case F, then worse with a stringer added between them.
+#[test]
+fn a_member_added_in_the_middle() {
+    let [mut stringer, mut beam] = [[0; 16]; 2];
+    stringer[..11].copy_from_slice(&[1, 1, 500, 140, 0, 0, 100, 1, 28, 0, 1]);
+    beam[..11].copy_from_slice(&[2, 1, 300, 0, 200, 0, 100, 1, 24, 0, 1]);
+    let (mut worn, mut added) = (stringer, stringer);
+    (worn[S2], added[SPAN]) = (1, 501);
+    let vehicle = VehicleWords { class: 0, track: 190, axles: vec![[1500, 0], [3000, 370]] };
+    let permitted = |version, records: &[Words]| {
+        let bridge = judged_file(&survey_bytes_of(version, records), &vehicle, 0);
+        bridge.members.iter().map(|member| member.permitted).collect::<Vec<_>>()
+    };
+    let first = permitted(FREE_ORDER, &[beam, stringer]);
+    let second = permitted(IN_ORDER, &[worn, added, beam]);
+    assert_eq!(first, [1939, 1720]);
+    assert_eq!([second[0], second[2]], [1343, 1939]);
 }
 
 /// Any wear, the rot of closely spaced stringers and of their decks too. Permitted loads of these
@@ -99,8 +297,9 @@ fn vehicle_loads_never_fall_whatever_wears() {
         let heavier_vehicle = worse_vehicle(&mut random, &vehicle, 3);
         let first = judged(&members, &vehicle, seed);
         let second = judged(&worse, &heavier_vehicle, seed);
-        never_lighter(&first, &second, seed);
-        for ((words, one), other) in members.iter().zip(&first.members).zip(&second.members) {
+        let places = same_places(&first);
+        for (words, (one, other)) in members.iter().zip(shared(&first, &second, &places)) {
+            no_lighter(one, other, seed);
             let rises = other.permitted > one.permitted;
             assert!(!rises || words[KIND] == CLOSE_STRINGER, "TBR_SEED={seed}: {words:?}");
             rose += u32::from(rises);

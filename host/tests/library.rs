@@ -15,7 +15,7 @@ fn pair(random: &mut Random) -> (Vec<u8>, Vec<u8>) {
     let spread = if random.once_in(3) { Spread::Wide } else { Spread::Usual };
     let (members, axles) = match random.below(400) {
         0 => {
-            let survey = survey_bytes(&full_survey(random, spread));
+            let survey = full_survey_file(random, spread);
             return (survey, vehicle_bytes(&vehicle(random, spread, 16)));
         }
         1..=60 => return some_damage(random),
@@ -26,7 +26,7 @@ fn pair(random: &mut Random) -> (Vec<u8>, Vec<u8>) {
         121..=140 => (1 + random.below(16), 1 + random.below(16)),
         _ => (1 + random.below(3), 1 + random.below(5)),
     };
-    let survey = survey_bytes(&survey(random, spread, members));
+    let survey = survey_file(random, spread, members);
     (survey, vehicle_bytes(&vehicle(random, spread, axles)))
 }
 
@@ -40,9 +40,10 @@ fn governs_without_the_figure(judged: &Judged) -> bool {
 fn the_library_answers_as_the_reference() {
     let first = seed(0x7b2_0001);
     let mut seen: BTreeMap<String, u64> = BTreeMap::new();
-    let mut apart = 0;
+    let (mut apart, mut ordered) = (0, 0);
     for seed in first..first + PAIRS {
         let (survey, vehicle) = pair(&mut Random::new(seed));
+        ordered += u64::from(survey.starts_with(b"TBR\x02\x00"));
         let answer = library(&survey, &vehicle);
         assert_eq!(answer, expected(&survey, &vehicle), "TBR_SEED={seed}");
         apart += u32::from(answer.as_ref().is_ok_and(governs_without_the_figure));
@@ -55,13 +56,14 @@ fn the_library_answers_as_the_reference() {
     }
     println!("{seen:?}");
     // The pairs are worth something only if all answers are among them.
-    let refusals = (1..=8).map(|n| format!("Survey {n}"));
+    let refusals = (1..=8).chain([16]).map(|n| format!("Survey {n}"));
     let refusals = refusals.chain([1, 2, 3, 7].map(|n| format!("Vehicle {n}")));
     let usual = ["passes true", "passes false", "figure 0"].map(str::to_string);
     for what in usual.into_iter().chain(refusals) {
         assert!(seen.get(&what).copied().unwrap_or(0) >= 20, "{what} is rare: {seen:?}");
     }
     assert!(apart >= 2000, "the governing member has not the figure in {apart} pairs");
+    assert!(ordered >= PAIRS / 4, "{ordered} surveys of version 2");
 }
 
 /// Two members or more with the least margin: the first of them governs, whatever their loads.
@@ -130,13 +132,15 @@ fn numbers_at_the_edges() {
     }
 }
 
-/// One damage in each way at each place of the largest files.
+/// One damage in each way at each place of the largest files, and every version that no file has.
 #[test]
 fn refusals_at_every_place() {
     let first = seed(0x7b2_0005);
     for seed in first..first + 20 {
         let mut random = Random::new(seed);
-        for all in [damaged_surveys(&mut random), damaged_vehicles(&mut random)] {
+        let of_records = [damaged_surveys(&mut random), damaged_vehicles(&mut random)];
+        let of_versions = [misplaced_surveys(&mut random), wrong_versions(&mut random)];
+        for all in of_records.into_iter().chain(of_versions) {
             for Damaged { survey, vehicle, refusal } in all {
                 assert_eq!(library(&survey, &vehicle), Err(refusal), "TBR_SEED={seed}");
             }

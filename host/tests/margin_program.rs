@@ -23,7 +23,7 @@ fn bridge(random: &mut Random) -> (Vec<u8>, VehicleWords) {
     };
     near.unwrap_or_else(|| {
         let (spread, members, axles) = (spread(random), 1 + random.below(6), 1 + random.below(4));
-        let survey = survey_bytes(&survey(random, spread, members));
+        let survey = survey_file(random, spread, members);
         (survey, vehicle(random, spread, axles))
     })
 }

@@ -44,7 +44,7 @@ fn hundreds_of_bridges() {
     for i in 0..300 {
         let spread = if i % 2 == 0 { Spread::Wide } else { Spread::Usual };
         let (members, axles) = (1 + random.below(64), 1 + random.below(16));
-        let survey = survey_bytes(&survey(&mut random, spread, members));
+        let survey = survey_file(&mut random, spread, members);
         let vehicle = vehicle_bytes(&vehicle(&mut random, spread, axles));
         agree(&[survey, vehicle].concat(), &format!("TBR_SEED={seed}, input {i}"));
     }
@@ -57,6 +57,18 @@ fn refused_files() {
     for i in 0..300 {
         let (survey, vehicle) = some_damage(&mut random);
         agree(&[survey, vehicle].concat(), &format!("TBR_SEED={seed}, input {i}"));
+    }
+}
+
+/// Records out of order in each way, and versions that no file has.
+#[test]
+fn refused_orders_and_versions() {
+    let seed = seed(0xb41_0005);
+    let mut random = Random::new(seed);
+    let all = [misplaced_surveys(&mut random), wrong_versions(&mut random)];
+    for (i, damaged) in all.into_iter().flatten().enumerate() {
+        let input = [damaged.survey, damaged.vehicle].concat();
+        agree(&input, &format!("TBR_SEED={seed}, input {i}"));
     }
 }
 
@@ -82,7 +94,9 @@ fn megabytes_of_anything() {
     for length in [5, 6, 4096, 65_535, 65_536, 65_537, 1_000_000, 8_000_000] {
         let mut bytes = random.bytes(length);
         agree(&bytes, &format!("{length} random bytes"));
-        bytes[..5].copy_from_slice(b"TBR\x01\x00");
-        agree(&bytes, &format!("{length} random bytes behind a mark"));
+        for mark in [b"TBR\x01\x00", b"TBR\x02\x00"] {
+            bytes[..5].copy_from_slice(mark);
+            agree(&bytes, &format!("{length} random bytes behind a mark"));
+        }
     }
 }

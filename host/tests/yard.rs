@@ -68,11 +68,11 @@ fn expected(survey: &[u8], yard: &[u8], entries: usize) -> (Numbers, Vec<u64>) {
 fn input(random: &mut Random) -> (Vec<u8>, Vec<u8>) {
     let spread = if random.once_in(3) { Spread::Wide } else { Spread::Usual };
     let survey = match random.below(200) {
-        0 => survey_bytes(&full_survey(random, spread)),
+        0 => full_survey_file(random, spread),
         1..=9 => some_damage(random).0,
         _ => {
             let members = 1 + random.below(3);
-            survey_bytes(&survey(random, spread, members))
+            survey_file(random, spread, members)
         }
     };
     let (count, axles) = match random.below(100) {

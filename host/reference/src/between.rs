@@ -34,7 +34,7 @@ fn may_grow(first: &Words, word: usize) -> bool {
 }
 
 /// The second record is the first worn as much or more, "and all else equal".
-fn is_ordered(first: &Words, second: &Words) -> bool {
+pub fn is_ordered(first: &Words, second: &Words) -> bool {
     (0..first.len()).all(|word| {
         if may_grow(first, word) {
             first[word] <= second[word]

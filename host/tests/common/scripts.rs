@@ -13,15 +13,15 @@ pub fn spread(random: &mut Random) -> Spread {
     }
 }
 
-/// Mostly small surveys, as brute force is dear; now and then one that is refused.
+/// Mostly small surveys of either version, as brute force is dear; now and then one that is refused.
 pub fn load_survey(random: &mut Random, script: &mut Script) {
     let spread = spread(random);
     let bytes = match random.below(24) {
         0 => some_damage(random).0,
-        1 => survey_bytes(&full_survey(random, spread)),
+        1 => full_survey_file(random, spread),
         _ => {
             let members = 1 + random.below(4);
-            survey_bytes(&survey(random, spread, members))
+            survey_file(random, spread, members)
         }
     };
     script.survey(&bytes);
