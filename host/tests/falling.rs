@@ -186,11 +186,11 @@ impl Seen {
 
     /// The pairs are worth something only if records move, in all four pairs of versions.
     fn hold(&self, pairs: u64) {
-        let Seen { versions, moved, kept, other_matches, lower, turned } = self;
+        let Seen { versions, moved, kept, lower, .. } = self;
         assert_eq!(versions.len(), 4, "{versions:?}");
         assert!(versions.values().all(|&times| times > pairs / 5), "{versions:?}");
-        assert!(moved > kept && *other_matches > 200, "{moved} moved, {other_matches} others");
-        assert!(u64::from(*lower) > pairs / 20, "{lower} figures fell, {turned} verdicts turned");
+        assert!(moved > kept, "{moved} partners in another place, {kept} in the same");
+        assert!(u64::from(*lower) > pairs / 20, "{lower} figures fell");
     }
 }
 
@@ -221,9 +221,10 @@ fn worse_matched_files_never_rate_better() {
     }
     seen.hold(PAIRS);
     assert!(seen.turned > 100, "{} verdicts turned", seen.turned);
+    assert!(seen.other_matches > 2000, "{} matches beside the partners", seen.other_matches);
 }
 
-/// The largest surveys: up to 64 members, some of them added.
+/// The largest surveys: up to 64 members that bear something, some of them added.
 #[test]
 fn worse_matched_full_files_never_rate_better() {
     const FULL: u64 = 400;
@@ -231,9 +232,9 @@ fn worse_matched_full_files_never_rate_better() {
     let mut seen = Seen::default();
     for seed in start..start + FULL {
         let mut random = Random::new(seed);
-        let members = full_survey(&mut random, Spread::Usual);
         let count = *random.pick(&[40, 63, 64]);
-        matched_pair(&mut seen, &mut random, &members[..count], 24, seed);
+        let members = bearing_survey(&mut random, count);
+        matched_pair(&mut seen, &mut random, &members, 24, seed);
     }
     seen.hold(FULL);
 }
