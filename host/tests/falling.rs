@@ -166,9 +166,8 @@ fn some_members(random: &mut Random, most: usize) -> Vec<Words> {
 /// What the pairs of surveys were.
 #[derive(Default)]
 struct Seen {
-    versions: BTreeMap<[u16; 2], u64>,
-    moved: usize,
-    kept: usize,
+    /// By the versions: the pairs, and the partners in another place.
+    versions: BTreeMap<[u16; 2], (u64, usize)>,
     other_matches: usize,
     lower: u32,
     turned: u32,
@@ -176,9 +175,9 @@ struct Seen {
 
 impl Seen {
     fn add(&mut self, surveys: &TwoSurveys, first: &Bridge, second: &Bridge) {
-        *self.versions.entry(surveys.versions).or_default() += 1;
-        self.moved += surveys.moved();
-        self.kept += surveys.first.len() - surveys.moved();
+        let (pairs, moved) = self.versions.entry(surveys.versions).or_default();
+        *pairs += 1;
+        *moved += surveys.moved();
         self.other_matches += surveys.other_matches().len();
         self.lower += u32::from(second.judgement.figure < first.judgement.figure);
         self.turned += u32::from(first.judgement.passes && !second.judgement.passes);
@@ -186,10 +185,9 @@ impl Seen {
 
     /// The pairs are worth something only if records move, in all four pairs of versions.
     fn hold(&self, pairs: u64) {
-        let Seen { versions, moved, kept, lower, .. } = self;
-        assert_eq!(versions.len(), 4, "{versions:?}");
-        assert!(versions.values().all(|&times| times > pairs / 5), "{versions:?}");
-        assert!(moved > kept, "{moved} partners in another place, {kept} in the same");
+        let Seen { versions, lower, .. } = self;
+        let often = |&(met, moved): &(u64, usize)| met > pairs / 5 && moved as u64 > met;
+        assert!(versions.len() == 4 && versions.values().all(often), "{versions:?}");
         assert!(u64::from(*lower) > pairs / 20, "{lower} figures fell");
     }
 }
