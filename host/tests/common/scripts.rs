@@ -13,7 +13,7 @@ pub fn spread(random: &mut Random) -> Spread {
     }
 }
 
-/// Mostly small surveys of either version, as brute force is dear; now and then one that is refused.
+/// Mostly small surveys of either version, as brute force is dear; now and then a refused one.
 pub fn load_survey(random: &mut Random, script: &mut Script) {
     let spread = spread(random);
     let bytes = match random.below(24) {

@@ -4,6 +4,7 @@
 use super::brink::brink;
 use super::damage::{damage_survey, spoil, SurveyDamage};
 use super::disorder::{disorder, Disorder};
+use super::order::misplace_one;
 use super::worse::grows;
 use super::{
     any_survey, full_survey, in_order, misplace, survey, survey_bytes_of, vehicle, worse_survey,
@@ -143,8 +144,8 @@ fn spoil_later(random: &mut Random, ends: &mut [Vec<Words>; 2], end: usize, i: u
     }
 }
 
-/// A record of one end that no survey has, in each way; often with the first record another bridge's
-/// or with what comes later wrong.
+/// A record of one end that no survey has, in each way; often the second survey's first record is
+/// of another bridge, or what comes later is wrong too.
 fn refused(random: &mut Random, sound: &[Vec<Words>; 2], i: usize) -> Vec<DamagedPair> {
     let mut all = Vec::new();
     for end in [0, 1] {
@@ -227,11 +228,8 @@ fn damage(random: &mut Random, ends: &mut [Vec<Words>; 2]) {
         _ => {}
     }
     for _ in 0..random.below(3) {
-        let records = &mut ends[random.below(2)];
-        if records.len() > 1 {
-            let (i, way) = (1 + random.below(records.len() - 1), *random.pick(&Misplaced::ALL));
-            misplace(random, records, i, way);
-        }
+        let end = random.below(2);
+        misplace_one(random, &mut ends[end]);
     }
     for _ in 0..random.below(3) {
         let records = &mut ends[random.below(2)];

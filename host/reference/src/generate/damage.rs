@@ -160,7 +160,7 @@ pub fn some_damage(random: &mut Random) -> (Vec<u8>, Vec<u8>) {
         0..=3 => spoil(random, &mut survey),
         4..=7 => spoil(random, &mut vehicle),
         8 => survey = with_version(&survey, *random.pick(&NO_VERSIONS)),
-        9 => vehicle = with_version(&vehicle, *random.pick(&[IN_ORDER, 3, 257])),
+        9 => vehicle = with_version(&vehicle, *random.pick(&[2, 3, 257])),
         _ => {}
     }
     (survey, vehicle)

@@ -44,10 +44,9 @@ pub fn alike_survey(random: &mut Random, spread: Spread, count: usize) -> Vec<Wo
     let kind = random.between(1, LAST_KIND - 1);
     let any = [random.between(100, 900), random.between(30, 99)];
     let (span, spacing) = (*random.pick(&[any[0], 255, 511]), *random.pick(&[any[1], 255]));
-    let next = |random: &mut Random, value: u16| value + random.between(0, 1);
     let mut members = Vec::with_capacity(count);
     for _ in 0..count {
-        let at = [kind, span, spacing].map(|value| next(random, value));
+        let at = [kind, span, spacing].map(|value| value + random.between(0, 1));
         members.push(member_at(random, spread, at));
     }
     members
@@ -83,9 +82,8 @@ pub(super) fn some_order(random: &mut Random, spread: Spread, count: usize) -> (
         _ => {}
     }
     let mut ordered = in_order(&members);
-    if count > 1 && random.once_in(3) {
-        let (i, way) = (1 + random.below(count - 1), *random.pick(&Misplaced::ALL));
-        misplace(random, &mut ordered, i, way);
+    if random.once_in(3) {
+        misplace_one(random, &mut ordered);
     }
     (IN_ORDER, ordered)
 }
@@ -131,6 +129,14 @@ pub fn misplace(random: &mut Random, records: &mut [Words], i: usize, way: Mispl
     before.is_some()
 }
 
+/// Puts any record before its predecessor, where there is one with such a record before it.
+pub(super) fn misplace_one(random: &mut Random, records: &mut [Words]) {
+    if records.len() > 1 {
+        let (i, way) = (1 + random.below(records.len() - 1), *random.pick(&Misplaced::ALL));
+        misplace(random, records, i, way);
+    }
+}
+
 /// 64 records in order but for the one at this place.
 fn misplaced_at(random: &mut Random, i: usize, way: Misplaced) -> Vec<Words> {
     loop {
@@ -158,11 +164,8 @@ pub fn misplaced_surveys(random: &mut Random) -> Vec<Damaged> {
     let mut all = Vec::new();
     let mut add = |records: &[Words], (number, place)| {
         let (survey, vehicle) = (survey_bytes_of(IN_ORDER, records), vehicle.clone());
-        all.push(Damaged {
-            survey,
-            vehicle,
-            refusal: Refused { file: File::Survey, number, place },
-        });
+        let refusal = Refused { file: File::Survey, number, place };
+        all.push(Damaged { survey, vehicle, refusal });
     };
     for i in 1..64 {
         for way in Misplaced::ALL {
@@ -200,7 +203,8 @@ pub fn wrong_versions(random: &mut Random) -> Vec<Damaged> {
         vehicle: vehicle.clone(),
         refusal: refusal(File::Survey),
     });
-    let of_vehicle = NO_VERSIONS.into_iter().chain([IN_ORDER]).map(|version| Damaged {
+    // Vehicles have no second version.
+    let of_vehicle = NO_VERSIONS.into_iter().chain([2]).map(|version| Damaged {
         survey: survey.clone(),
         vehicle: with_version(&vehicle, version),
         refusal: refusal(File::Vehicle),
