@@ -156,7 +156,7 @@ fn a_survey_out_of_order() {
     survey[3] = 2;
     let survey = folder.file("wrong.tbr", survey);
     let problem = "300 cm is below the 500 cm of member 1; from version 2 members stand by kind, \
-                   then span or truss spacing, then spacing";
+                   then span or truss spacing, then spacing, each rising";
     let message = format!("survey refused, number 16 at member 2: span (l): {problem}");
     let (status, printed, error) = run(&["judge", "--json", &survey, "lorry.tbv"]);
     assert_eq!((status, error.as_str()), (2, ""));

@@ -13,7 +13,7 @@ const ORDERED: &[u8] = include_bytes!("../../samples/ordered.tbr");
 
 /// What is said behind the two numbers.
 const ORDER: &str =
-    "from version 2 members stand by kind, then span or truss spacing, then spacing";
+    "from version 2 members stand by kind, then span or truss spacing, then spacing, each rising";
 
 fn contents(version: u16, members: &[Member]) -> Contents {
     Contents::Survey(Survey { version, members: members.to_vec() })

@@ -90,7 +90,7 @@ fn member(words: &Member, number: u64) -> Option<Vec<FieldFault>> {
 const OUT_OF_ORDER: u64 = 16;
 
 /// What puts the member of this place before its predecessor.
-fn misplaced(bytes: &[u8], place: u64) -> Option<FieldFault> {
+fn before_predecessor(bytes: &[u8], place: u64) -> Option<FieldFault> {
     let members = file::members(bytes);
     let earlier = place.checked_sub(1)?;
     let of = |place: u64| members.get(usize::try_from(place).ok()?.checked_sub(1)?);
@@ -128,7 +128,7 @@ pub fn explain(bytes: &[u8], refusal: &Refusal) -> Vec<FieldFault> {
     let name = |field: &Field| field.name.to_string();
     match record(bytes, refusal) {
         Some(Record::Member(_)) if refusal.number == OUT_OF_ORDER => {
-            misplaced(bytes, refusal.place).into_iter().collect()
+            before_predecessor(bytes, refusal.place).into_iter().collect()
         }
         Some(Record::Member(words)) => member(&words, refusal.number).unwrap_or_default(),
         Some(Record::Heading(words)) => wrong(&HEADING, &words, name),

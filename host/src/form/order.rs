@@ -7,7 +7,7 @@ use super::write::kind_of;
 use crate::file::Member;
 
 /// The order in words.
-pub const ORDER: &str = "by kind, then span or truss spacing, then spacing";
+pub const ORDER: &str = "by kind, then span or truss spacing, then spacing, each rising";
 /// The words that it goes by.
 const ORDER_WORDS: [usize; 3] = [KIND_WORD, SPAN_WORD, SPACING_WORD];
 

@@ -94,7 +94,7 @@ fn version(line: &Line, faults: &mut Vec<TextError>) -> u16 {
 
 /// The members, each with its line, that stand behind one that they come before. A line with
 /// another fault is passed over: its numbers may not be those that are meant.
-fn misplaced(members: &[(usize, Member)], faults: &[TextError]) -> Vec<TextError> {
+fn out_of_order(members: &[(usize, Member)], faults: &[TextError]) -> Vec<TextError> {
     let faulty: BTreeSet<usize> = faults.iter().map(|fault| fault.line).collect();
     let sound = members.iter().filter(|(line, _)| !faulty.contains(line));
     let sound: Vec<&(usize, Member)> = sound.collect();
@@ -117,7 +117,7 @@ fn survey(
     let read = |_, line: &Line, faults: &mut Vec<TextError>| (line.number, member(line, faults));
     let members = records((Which::Survey, number), lines, faults, read);
     if version >= ORDERED_FROM {
-        faults.extend(misplaced(&members, faults));
+        faults.extend(out_of_order(&members, faults));
     }
     Survey { version, members: members.into_iter().map(|(_, words)| words).collect() }
 }
