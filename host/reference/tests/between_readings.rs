@@ -1,8 +1,10 @@
 //! Rot between two readings: what the request could be taken for. The right reading is worked a
 //! second time here, and each wrong one must answer some call in another way.
 
+mod raw;
 mod two_surveys;
 
+use raw::raw;
 use reference::generate::*;
 use reference::layout::*;
 use reference::{reader, Passing};
@@ -51,13 +53,6 @@ const WRONG: [Wrong; 18] = [
     Wrong::MisplacedAfterSecond,
     Wrong::MisplacedAfterOrder,
 ];
-
-/// The words of a file as they stand, whether it is acceptable or not.
-fn raw(bytes: &[u8]) -> Vec<Words> {
-    let records = bytes.get(6..).unwrap_or(&[]).chunks_exact(32);
-    let word = |record: &[u8], i: usize| u16::from_le_bytes([record[2 * i], record[2 * i + 1]]);
-    records.map(|record| std::array::from_fn(|i| word(record, i))).collect()
-}
 
 /// Is this word of the second record as it should be?
 fn in_order(wrong: Option<Wrong>, first: &Words, second: &Words, word: usize) -> bool {

@@ -1,6 +1,9 @@
 //! Records in one order: what the request could be taken for. The right reading is worked a second
 //! time here, and the generated files must show each wrong one; and what the generator makes.
 
+mod raw;
+
+use raw::raw;
 use reference::generate::*;
 use reference::layout::*;
 use reference::reader;
@@ -47,13 +50,6 @@ const WRONG: [Wrong; 17] = [
     Wrong::VersionThreeTaken,
     Wrong::LowByteOfVersion,
 ];
-
-/// The words of a file as they stand, whether it is acceptable or not.
-fn raw(bytes: &[u8]) -> Vec<Words> {
-    let records = bytes.get(6..).unwrap_or(&[]).chunks_exact(32);
-    let word = |record: &[u8], i: usize| u16::from_le_bytes([record[2 * i], record[2 * i + 1]]);
-    records.map(|record| std::array::from_fn(|i| word(record, i))).collect()
-}
 
 /// Does the later of two records stand before the earlier?
 fn before(wrong: Option<Wrong>, earlier: &Words, later: &Words) -> bool {
