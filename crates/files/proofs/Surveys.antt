@@ -212,4 +212,4 @@ module _ (bytes : List ℕ) where
           let f = h .sequence-fault e in
           let there : r .place - 1 + 1 ≡ r .place = omega (arith, h .place (omega arith)) in
           rw (good-records (f .headed) (f .good))
-          (sequence-refused bytes (countOf bytes) (r .place - 1) (f .version) (f .within) (f .fault) (f .first) ∙ rw (there, e))
+          (sequence-refused bytes (countOf bytes) (r .place - 1) (f .version) (f .within) (f .fault) (λ k l. f .first k (omega arith)) ∙ rw (there, e))
