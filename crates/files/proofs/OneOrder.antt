@@ -1,13 +1,22 @@
 -- Of records no two of which are equals there is one order: a matching of two rows in order keeps the order, so it can move no record.
+-- Then every word of the two files is the same, and so is every byte.
 -- Assumes nothing.
-use Prim.Native.Nat.{ℕ, zero, suc, _+_, _-_, _≤_, _<_}
-use mathlib.Core.Path.{_≡_, ap, _∙_}
+use Prim.Native.Nat.{ℕ, zero, suc, _+_, _-_, _*_, _/_, _≤_, _<_}
+use mathlib.Core.Path.{_≡_, ap, sym, _∙_}
 use mathlib.Core.List.{List, [], _∷_}
 use mathlib.Core.Logic.{inl, inr, ⊎-elim}
 use native.Mathlib.Decide.{decLt}
 use native.Mathlib.Omega.{arith}
+use lib.ListN.{length, getD}
+use lib.Seq.{ext-getD, getD-take}
 use Rattle.member.specs.declared.record.Member.{Member}
-use Rattle.files.specs.Sequence.{sequenceFields, Before, OneOrder}
+use Rattle.member.specs.Fields.{FIELDS, field}
+use Rattle.files.specs.Words.{byteAt, wordAt}
+use Rattle.files.specs.Sequence.{sequenceFields, Before}
+use Rattle.files.specs.Header.{versionOf}
+use Rattle.files.specs.SurveyFile.{SURVEY-HEADER, RECORD, SEQUENCE-FROM, countOf, recordAt}
+use Rattle.files.specs.OneOrder.{Bytes, OneOrder, OneFile}
+use Rattle.files.proofs.Sequences.{record-field}
 
 -- no record stands before itself
 not-itself : (fs : List ℕ) (m : Member) → ¬ (Before fs m m)
@@ -47,5 +56,58 @@ one-order at at' n partner order order' distinct same i l = same i l .1 ∙ ap a
               elim (decLt (partner k) (partner i)) [
                 | yes c ↦ absurd (order' (partner k) (partner i) c here ahead)
                 | no c ↦ let alike : partner i ≡ partner k = omega arith in absurd (not-itself sequenceFields (at' (partner k)) (rw alike at ahead))
+              ]
+        ]
+
+-- a word is its two bytes
+same-bytes : (a b a' b' : ℕ) → a < 256 → a' < 256 → a + 256 * b ≡ a' + 256 * b' → (a ≡ a') × (b ≡ b')
+same-bytes a b a' b' l l' e = omega arith
+
+module _ (bytes bytes' : List ℕ) (b : Bytes bytes) (b' : Bytes bytes') where
+  -- two files with the same word at a place
+  word-same : (at : ℕ) → wordAt bytes at ≡ wordAt bytes' at → (j : ℕ) → at ≤ j → j < at + 2 → byteAt bytes j ≡ byteAt bytes' j
+  word-same at same j l h =
+      let (low, high) = same-bytes _ (byteAt bytes (at + 1)) _ (byteAt bytes' (at + 1)) (b at) (b' at) same in
+      elim (decLt at j) [
+        | yes s ↦ let e : j ≡ at + 1 = omega arith in rw e high
+        | no s ↦ let e : j ≡ at = omega arith in rw e low
+      ]
+
+  -- with the same record of index i
+  record-same : (i : ℕ) → recordAt bytes i ≡ recordAt bytes' i → (j : ℕ) → SURVEY-HEADER + RECORD * i ≤ j → j < SURVEY-HEADER + RECORD * (i + 1) →
+      byteAt bytes j ≡ byteAt bytes' j
+  record-same i same j l h =
+      let at = SURVEY-HEADER + RECORD * i in
+      let f = (j - at) / 2 in
+      let within : f < FIELDS = omega arith in
+      word-same (at + 2 * f) (sym (record-field bytes i f within) ∙ ap (λ (m : Member). field m f) same ∙ record-field bytes' i f within) j (omega arith) (omega arith)
+
+pub one-file : OneFile
+one-file bytes bytes' partner b b' a a' v same-version same-count distinct same =
+    ext-getD 0 bytes bytes' (omega (arith, a .size, a' .size)) at-each
+  where
+    from : SEQUENCE-FROM ≤ versionOf bytes'
+    from = omega arith
+
+    records : (i : ℕ) → i < countOf bytes → recordAt bytes i ≡ recordAt bytes' i
+    records = one-order (recordAt bytes) (recordAt bytes') (countOf bytes) partner (a .order v) (rw same-count (a' .order from)) distinct same
+
+    marks : (j : ℕ) → j < 3 → byteAt bytes j ≡ byteAt bytes' j
+    marks j l = sym (getD-take 3 bytes j 0 l) ∙ ap (λ (t : List ℕ). getD t j 0) (a .mark ∙ sym (a' .mark)) ∙ getD-take 3 bytes' j 0 l
+
+    at-each : (j : ℕ) → j < length bytes → byteAt bytes j ≡ byteAt bytes' j
+    at-each j l =
+        elim (decLt j 3) [
+          | yes s ↦ marks j s
+          | no s ↦
+              elim (decLt j 5) [
+                | yes t ↦ word-same bytes bytes' b b' 3 same-version j (omega arith) (omega arith)
+                | no t ↦
+                    elim (decLt j SURVEY-HEADER) [
+                      | yes u ↦ let e : j ≡ 5 = omega arith in rw e same-count
+                      | no u ↦
+                          let i = (j - SURVEY-HEADER) / RECORD in
+                          record-same bytes bytes' b b' i (records i (omega (arith, a .size))) j (omega arith) (omega arith)
+                    ]
               ]
         ]

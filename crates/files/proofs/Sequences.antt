@@ -1,7 +1,7 @@
 -- The order of a survey's records: the test decides it, and it is enough to test each record against its predecessor, since of records m, n
 -- and k m stands before k only where m stands before n or n before k.
 -- Assumes nothing.
-use Prim.Native.Nat.{ℕ, zero, suc, _+_, _-_, _≤_, _<_}
+use Prim.Native.Nat.{ℕ, zero, suc, _+_, _-_, _*_, _≤_, _<_}
 use mathlib.Core.Path.{_≡_, refl, sym, _∙_}
 use mathlib.Core.Bool.{Bool, true, false, not, false≢true}
 use mathlib.Core.List.{List, [], _∷_}
@@ -11,18 +11,22 @@ use native.Mathlib.Omega.{arith}
 use lib.Dec.{eqb, ltb}
 use borrow.Author.Tests.{eqb-true, eq-eqb, ne-eqb, leb-true, le-leb, lt-leb}
 use Rattle.section.specs.Choose.{choose}
-use Rattle.member.specs.Fields.{field}
+use Rattle.member.specs.Fields.{FIELDS, field}
 use Rattle.member.specs.declared.record.Member.{Member}
 use Rattle.files.specs.Sequence.{sequenceFields, before, Before, beforePredecessor, BeforePredecessor, InSequence}
 use Rattle.files.specs.Reading.{_unless_, firstFault}
-use Rattle.files.specs.Words.{each}
+use Rattle.files.specs.Words.{wordAt, each}
 use Rattle.files.specs.Header.{versionOf}
-use Rattle.files.specs.SurveyFile.{SEQUENCE-FROM, recordAt, sequenceFault, sequenceAnswer}
+use Rattle.files.specs.SurveyFile.{SURVEY-HEADER, RECORD, SEQUENCE-FROM, recordAt, sequenceFault, sequenceAnswer}
 use Rattle.files.specs.declared.Reading.the-variants.{Taken, Refused}
 use Rattle.files.specs.declared.Refusal.{Refusal}
 use Rattle.files.proofs.Each.{getD-each}
 use Rattle.files.proofs.Faults.{refusal, refused-not, fault-at, taken-none, none-taken, FaultAt, refused-at}
 use Rattle.files.proofs.Tests.{both, refutes}
+
+-- a record's numbers are words of the file
+pub record-field : (bytes : List ℕ) (i f : ℕ) → f < FIELDS → field (recordAt bytes i) f ≡ wordAt bytes (SURVEY-HEADER + RECORD * i + 2 * f)
+record-field bytes i f h = getD-each (λ k. wordAt bytes (SURVEY-HEADER + RECORD * i + 2 * k)) FIELDS f 0 h
 
 -- the test, field by field: the first in which the records differ decides, and the last in any case
 module _ (f : ℕ) (m m' : Member) {a b : ℕ} (is : a ≡ field m f) (ahead : b ≡ field m' f) where

@@ -22,7 +22,7 @@ use Rattle.files.specs.declared.SurveyRead.{SurveyRead}
 use Rattle.files.proofs.Each.{length-each, getD-each, getD-padded}
 use Rattle.files.proofs.Faults.{refusal, both-taken, one-refused, head-first, head-clear, fault-at, taken-none, none-taken, FaultAt, refused-at}
 use Rattle.files.proofs.Headers.{headed, header-clear, header-named, header-is, header-number}
-use Rattle.files.proofs.Sequences.{fault-given, fault-read, sequence-read, sequence-given, sequence-first, sequence-refused}
+use Rattle.files.proofs.Sequences.{record-field, fault-given, fault-read, sequence-read, sequence-given, sequence-first, sequence-refused}
 use Rattle.files.proofs.Refusals.{clear-allowed, allowed-clear, member-named, member-is, member-number}
 
 -- the reading is its answer with the survey that belongs to it
@@ -102,8 +102,7 @@ module _ (bytes : List ℕ) where
 
   -- and number by number
   pub taken-field : readSurvey bytes .answer ≡ Taken → (i f : ℕ) (d : Member) → i < countOf bytes → f < FIELDS → field (getD (readSurvey bytes .survey .members) i d) f ≡ wordAt bytes (SURVEY-HEADER + RECORD * i + 2 * f)
-  taken-field e i f d l h =
-      rw (taken-record e i d l) (getD-each (λ k. wordAt bytes (SURVEY-HEADER + RECORD * i + 2 * k)) FIELDS f 0 h)
+  taken-field e i f d l h = rw (taken-record e i d l) (record-field bytes i f h)
 
   -- its count is in range and its members are allowed
   pub taken-count : readSurvey bytes .answer ≡ Taken → In (1 ‥ MOST-MEMBERS) (readSurvey bytes .survey .count)

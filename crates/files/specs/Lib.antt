@@ -5,5 +5,6 @@ pub mod Sequence
 pub mod SurveyFile
 pub mod VehicleFile
 pub mod Allowed
+pub mod OneOrder
 pub mod Refused
 pub mod YardFile

@@ -37,12 +37,3 @@ module _ (at : ℕ → Member) where
   -- the first n stand in order: none stands before an earlier one
   abbrev pub InSequence : (n : ℕ) → Type 0
   InSequence n = (i k : ℕ) → i < k → k < n → ¬ (Before sequenceFields (at k) (at i))
-
--- "Two clerks export one bridge and the files differ": of n records no two of which are equals there is one order. Where each of the first
--- clerk's is one of the second's and both stand in order, they stand at the same places
-abbrev pub OneOrder : Type 0
-OneOrder =
-    (at at' : ℕ → Member) (n : ℕ) (partner : ℕ → ℕ) → InSequence at n → InSequence at' n →
-    ((i k : ℕ) → i < k → k < n → Before sequenceFields (at i) (at k) ⊎ Before sequenceFields (at k) (at i)) →
-    ((i : ℕ) → i < n → (partner i < n) × (at i ≡ at' (partner i))) →
-    (i : ℕ) → i < n → at i ≡ at' i

@@ -2,11 +2,7 @@
 use mathlib.Core.Path.{sym, _∙_}
 use borrow.Author.Needs.{needs}
 use denote.Ref.{now}
-use Prim.Native.Nat.{_+_, _*_}
-use Rattle.member.specs.Fields.{FIELDS}
-use Rattle.files.specs.Words.{wordAt}
-use Rattle.files.specs.SurveyFile.{SURVEY-HEADER, RECORD}
-use Rattle.files.proofs.Each.{getD-each}
+use Rattle.files.proofs.Sequences.{record-field}
 use Rattle.files.proofs.sequence.field_at.Statement.{statement}
 use Rattle.files.proofs.sequence.field_at.Tie as tie
 
@@ -28,7 +24,7 @@ word-at-requires c κs = search needs
 returns : tie.Need-returns
 returns c =
     let a = c .before .before .args in
-    c .word-at .ensures ∙ sym (getD-each (λ k. wordAt (now (a .bytes)) (SURVEY-HEADER + RECORD * a .i + 2 * k)) FIELDS (a .f) 0 (c .before .before .pre .0))
+    c .word-at .ensures ∙ sym (record-field (now (a .bytes)) (a .i) (a .f) (c .before .before .pre .0))
 
 pub field-at-spec : {M : Type 1} → statement M
 field-at-spec =
