@@ -11,7 +11,7 @@ use lib.Seq.{take-all, take-take, take-add, drop-at, length-take-le, getD-take, 
 use borrow.Author.Tests.{le-leb, ne-eqb}
 use Rattle.member.specs.Format.{Range, _‥_}
 use Rattle.member.specs.Fields.{MOST-AXLES}
-use Rattle.files.specs.Words.{byteAt}
+use Rattle.files.specs.Words.{byteAt, Bytes}
 use Rattle.files.specs.Reading.{_unless_, firstOf, isIn}
 use Rattle.files.specs.Header.{marked, headerFault}
 use Rattle.files.specs.SurveyFile.{countOf}
@@ -22,7 +22,7 @@ use Rattle.files.proofs.Faults.{refusal, head-first}
 use Rattle.session.specs.Answers.{Outcome}
 use Rattle.session.specs.Calls.{newSession, loadSurvey, loadVehicle, loadFiles, andThen}
 use Rattle.session.specs.declared.Session.{Session}
-use Rattle.bridge.specs.Input.{Bytes, ENOUGH, LoadedFrom, surveyLength, surveyPart, vehiclePart, loadInput}
+use Rattle.bridge.specs.Input.{ENOUGH, LoadedFrom, surveyLength, surveyPart, vehiclePart, loadInput}
 
 then-same : (o : Outcome) (f g : Session → Outcome) → ((s : Session) → f s ≡ g s) → andThen o f ≡ andThen o g
 then-same o f g h = rw (h (o .session))

@@ -1,12 +1,12 @@
 -- What the program reads. Document 01, 'Calls': "reads standard input, survey then vehicle (the survey is the first 6 + 32 × count
 -- bytes, or all if fewer)".
-use Prim.Native.Nat.{ℕ, _+_, _*_, _<_, min}
+use Prim.Native.Nat.{ℕ, _+_, _*_, min}
 use mathlib.Core.Path.{_≡_}
 use mathlib.Core.List.{List}
 use lib.ListN.{length, take, drop}
 use Rattle.session.specs.Answers.{Outcome}
 use Rattle.session.specs.Calls.{loadFiles}
-use Rattle.files.specs.Words.{byteAt}
+use Rattle.files.specs.Words.{Bytes}
 use Rattle.files.specs.SurveyFile.{SURVEY-HEADER, RECORD, countOf}
 use Rattle.files.specs.VehicleFile.{VEHICLE-HEADER, AXLE}
 
@@ -23,10 +23,6 @@ vehiclePart input = drop (surveyLength input) input
 -- both loads, "the survey's refusal first": what is printed follows from this session and answer
 unfoldable pub loadInput : List ℕ → Outcome
 loadInput input = loadFiles (surveyPart input) (vehiclePart input)
-
--- a list of bytes
-abbrev pub Bytes : List ℕ → Type 0
-Bytes input = (i : ℕ) → byteAt input i < 256
 
 -- n bytes of a buffer were read from an input: they are its beginning, all of it or as much as the buffer holds
 pub record ReadFrom (input buffer : List ℕ) (n : ℕ) : Type 0 where

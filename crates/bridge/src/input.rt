@@ -11,7 +11,10 @@ use session::AfterLoad;
 use session::load_files;
 
 // The longest survey and the longest vehicle that a count byte can call for, and one byte more.
-pub const ENOUGH: usize = 6 + 32 * 255 + (9 + 4 * 255) + 1;
+pub const ENOUGH: usize = HEADER
+    + RECORD * 255
+    + (files::vehicle::HEADER + files::vehicle::AXLE * 255)
+    + 1;
 
 fn wide(x: u8) -> usize
     ensures is { λ r. ⌜ r ≡ x ⌝ }

@@ -11,11 +11,10 @@ use lib.ListN.{length, getD}
 use lib.Seq.{ext-getD, getD-take}
 use Rattle.member.specs.declared.record.Member.{Member}
 use Rattle.member.specs.Fields.{FIELDS, field}
-use Rattle.files.specs.Words.{byteAt, wordAt}
+use Rattle.files.specs.Words.{byteAt, Bytes, wordAt}
 use Rattle.files.specs.Sequence.{sequenceFields, Before}
-use Rattle.files.specs.Header.{versionOf}
-use Rattle.files.specs.SurveyFile.{SURVEY-HEADER, RECORD, SEQUENCE-FROM, countOf, recordAt}
-use Rattle.files.specs.OneOrder.{Bytes, OneOrder, OneFile}
+use Rattle.files.specs.SurveyFile.{SURVEY-HEADER, RECORD, countOf, recordAt}
+use Rattle.files.specs.OneOrder.{OneOrder, OneFile}
 use Rattle.files.proofs.Sequences.{record-field}
 
 -- no record stands before itself
@@ -83,14 +82,11 @@ module _ (bytes bytes' : List ℕ) (b : Bytes bytes) (b' : Bytes bytes') where
       word-same (at + 2 * f) (sym (record-field bytes i f within) ∙ ap (λ (m : Member). field m f) same ∙ record-field bytes' i f within) j (omega arith) (omega arith)
 
 pub one-file : OneFile
-one-file bytes bytes' partner b b' a a' v same-version same-count distinct same =
+one-file bytes bytes' partner b b' a a' v v' same-count distinct same =
     ext-getD 0 bytes bytes' (omega (arith, a .size, a' .size)) at-each
   where
-    from : SEQUENCE-FROM ≤ versionOf bytes'
-    from = omega arith
-
     records : (i : ℕ) → i < countOf bytes → recordAt bytes i ≡ recordAt bytes' i
-    records = one-order (recordAt bytes) (recordAt bytes') (countOf bytes) partner (a .order v) (rw same-count (a' .order from)) distinct same
+    records = one-order (recordAt bytes) (recordAt bytes') (countOf bytes) partner (a .order (omega arith)) (rw same-count (a' .order (omega arith))) distinct same
 
     marks : (j : ℕ) → j < 3 → byteAt bytes j ≡ byteAt bytes' j
     marks j l = sym (getD-take 3 bytes j 0 l) ∙ ap (λ (t : List ℕ). getD t j 0) (a .mark ∙ sym (a' .mark)) ∙ getD-take 3 bytes' j 0 l
@@ -101,7 +97,7 @@ one-file bytes bytes' partner b b' a a' v same-version same-count distinct same 
           | yes s ↦ marks j s
           | no s ↦
               elim (decLt j 5) [
-                | yes t ↦ word-same bytes bytes' b b' 3 same-version j (omega arith) (omega arith)
+                | yes t ↦ word-same bytes bytes' b b' 3 (v ∙ sym v') j (omega arith) (omega arith)
                 | no t ↦
                     elim (decLt j SURVEY-HEADER) [
                       | yes u ↦ let e : j ≡ 5 = omega arith in rw e same-count

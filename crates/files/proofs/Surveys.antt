@@ -32,8 +32,8 @@ read-as bytes answer survey a s = rw (s, a)
 
 module _ (bytes : List ℕ) where
   -- the answer for header and records, before their order
-  abbrev recordsAnswer : Reading
-  recordsAnswer = firstFault 0 (surveyHeader bytes ∷ recordFaults bytes (countOf bytes))
+  abbrev faultsAnswer : Reading
+  faultsAnswer = firstFault 0 (surveyHeader bytes ∷ recordFaults bytes (countOf bytes))
 
   abbrev HeadedSurvey : Type 0
   HeadedSurvey = Headed 82 SURVEY-VERSIONS SURVEY-HEADER MOST-MEMBERS RECORD bytes
@@ -57,14 +57,14 @@ module _ (bytes : List ℕ) where
   survey-clear = header-clear 82 SURVEY-VERSIONS SURVEY-HEADER MOST-MEMBERS RECORD bytes (omega arith)
 
   -- it takes them exactly where the header and every record are good
-  records-good : recordsAnswer ≡ Taken → HeadedSurvey × AllowedRecords
+  records-good : faultsAnswer ≡ Taken → HeadedSurvey × AllowedRecords
   records-good e =
       let none = taken-none 0 (surveyHeader bytes ∷ recordFaults bytes (countOf bytes)) e in (
         headed-survey (none 0),
         λ i l. clear-allowed (recordAt bytes i) (sym (getD-each (λ k. memberFault (recordAt bytes k)) (countOf bytes) i 0 l) ∙ none (suc i)),
       )
 
-  good-records : HeadedSurvey → AllowedRecords → recordsAnswer ≡ Taken
+  good-records : HeadedSurvey → AllowedRecords → faultsAnswer ≡ Taken
   good-records h members =
       head-clear 0 _ (recordFaults bytes (countOf bytes)) (survey-clear h) ∙ none-taken 1 (λ k. memberFault (recordAt bytes k)) (countOf bytes) (λ i l. allowed-clear (recordAt bytes i) (members i l))
 
@@ -72,7 +72,7 @@ module _ (bytes : List ℕ) where
   pub taken-allowed : readSurvey bytes .answer ≡ Taken → AllowedSurveyFile bytes
   unfolding readSurvey surveyAnswer
   taken-allowed e =
-      let (records, sequence) = both-taken recordsAnswer _ e in
+      let (records, sequence) = both-taken faultsAnswer _ e in
       let (h, members) = records-good records in
       record {
         mark = h .marked .0;
@@ -158,7 +158,7 @@ module _ (bytes : List ℕ) where
       }
 
   -- and one of their order
-  sequence-refusal : (r : Refusal) → recordsAnswer ≡ Taken → sequenceAnswer bytes (countOf bytes) ≡ Refused r → SurveyRefusal bytes r
+  sequence-refusal : (r : Refusal) → faultsAnswer ≡ Taken → sequenceAnswer bytes (countOf bytes) ≡ Refused r → SurveyRefusal bytes r
   sequence-refusal r e f =
       let (version, h) = sequence-first bytes (countOf bytes) r f in
       let i = r .place - 1 in
@@ -176,7 +176,7 @@ module _ (bytes : List ℕ) where
             record {
               headed = head;
               version = version;
-              good = members;
+              good = λ k l. members k (omega (arith, within));
               within = within;
               fault = at;
               first = λ k l b. omega (arith, fault-given bytes k b, getD-each (sequenceFault bytes) (countOf bytes) k 0 (omega arith), h .first k (omega arith));
@@ -188,14 +188,14 @@ module _ (bytes : List ℕ) where
   unfolding readSurvey surveyAnswer
   refused-named r e =
       ⊎-elim (λ f. record-refusal r (r .place) refl (refused-at 0 (surveyHeader bytes ∷ recordFaults bytes (countOf bytes)) r f)) (λ (t, f). sequence-refusal r t f)
-      (one-refused recordsAnswer _ r e)
+      (one-refused faultsAnswer _ r e)
 
   -- and a file of which a refusal says so is refused by it
   pub named-refused : (r : Refusal) → SurveyRefusal bytes r → readSurvey bytes .answer ≡ Refused r
   unfolding readSurvey surveyAnswer
   named-refused r h = ⊎-elim (λ small. rw (of-record small (r .place) refl)) of-sequence (h .number)
     where
-      of-record : In (1 ‥ 8) (r .number) → (p : ℕ) → r .place ≡ p → recordsAnswer ≡ Refused r
+      of-record : In (1 ‥ 8) (r .number) → (p : ℕ) → r .place ≡ p → faultsAnswer ≡ Refused r
       of-record small zero e =
           head-first 0 (r .number) (surveyHeader bytes) (recordFaults bytes (countOf bytes)) (header-is 82 SURVEY-VERSIONS SURVEY-HEADER MOST-MEMBERS RECORD bytes (omega arith) (h .header-fault e)) (omega (arith, small)) ∙ ap (refusal (r .number)) (sym e)
       of-record small (suc i) e =
@@ -206,9 +206,9 @@ module _ (bytes : List ℕ) where
           let there : i + 1 ≡ r .place = omega arith in
           head-clear 0 _ (recordFaults bytes (countOf bytes)) (survey-clear (first .headed)) ∙ fault-at fault 1 i (countOf bytes) (r .number) (first .within) before (member-is (recordAt bytes i) (first .fault)) (omega (arith, small)) ∙ ap (refusal (r .number)) there
 
-      of-sequence : r .number ≡ 16 → orElse recordsAnswer (sequenceAnswer bytes (countOf bytes)) ≡ Refused r
+      of-sequence : r .number ≡ 16 → orElse faultsAnswer (sequenceAnswer bytes (countOf bytes)) ≡ Refused r
       of-sequence e =
           let f = h .sequence-fault e in
           let there : r .place - 1 + 1 ≡ r .place = omega (arith, h .place (omega arith)) in
-          rw (good-records (f .headed) (f .good))
+          rw (good-records (f .headed) (λ k l. f .good k (omega arith)))
           (sequence-refused bytes (countOf bytes) (r .place - 1) (f .version) (f .within) (f .fault) (λ k l. f .first k (omega arith)) ∙ rw (there, e))

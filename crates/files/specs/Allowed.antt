@@ -4,7 +4,6 @@ use mathlib.Core.Path.{_≡_}
 use mathlib.Core.List.{List, [], _∷_}
 use lib.ListN.{length, take}
 use Rattle.member.specs.Format.{_‥_, In, AllowedMember, AllowedVehicle}
-use Rattle.files.specs.Words.{wordAt}
 use Rattle.files.specs.Header.{versionOf}
 use Rattle.files.specs.Sequence.{InSequence}
 use Rattle.member.specs.Fields.{MOST-MEMBERS}
@@ -24,6 +23,6 @@ pub record AllowedSurveyFile (bytes : List ℕ) : Type 0 where
 -- "Vehicle: TBV, u16 version 1, u8 class, u16 track, u8 axles, then per axle u16 weight and u16 distance"
 pub record AllowedVehicleFile (bytes : List ℕ) : Type 0 where
   pub mark : take 3 bytes ≡ 84 ∷ 66 ∷ 86 ∷ []
-  pub version : wordAt bytes 3 ≡ 1
+  pub version : versionOf bytes ≡ 1
   pub size : length bytes ≡ VEHICLE-HEADER + AXLE * axlesOf bytes
   pub vehicle : AllowedVehicle (vehicleOf bytes)

@@ -1,21 +1,21 @@
 -- What version 2 is for. Document 02, request 8/13: "Two clerks export one bridge and the files differ." In version 2 they do not, unless
 -- two of the records are equals.
-use Prim.Native.Nat.{ℕ, _≤_, _<_}
+use Prim.Native.Nat.{ℕ, _<_}
 use mathlib.Core.Path.{_≡_}
 use mathlib.Core.List.{List}
 use mathlib.Core.Logic.{_⊎_}
 use Rattle.member.specs.declared.record.Member.{Member}
-use Rattle.files.specs.Words.{byteAt}
+use Rattle.files.specs.Words.{Bytes}
 use Rattle.files.specs.Header.{versionOf}
 use Rattle.files.specs.Sequence.{sequenceFields, Before, InSequence}
-use Rattle.files.specs.SurveyFile.{SEQUENCE-FROM, countOf, recordAt}
+use Rattle.files.specs.SurveyFile.{countOf, recordAt}
 use Rattle.files.specs.Allowed.{AllowedSurveyFile}
 
 -- of the first n records no two are equals: of any two one stands before the other
 abbrev pub NoEquals : (at : ℕ → Member) (n : ℕ) → Type 0
 NoEquals at n = (i k : ℕ) → i < k → k < n → Before sequenceFields (at i) (at k) ⊎ Before sequenceFields (at k) (at i)
 
--- each of the first clerk's n records is one of the second's
+-- each of the first clerk's n records is one of the second's n; where no two are equals, both have the same records
 abbrev pub SameRecords : (at at' : ℕ → Member) (n : ℕ) (partner : ℕ → ℕ) → Type 0
 SameRecords at at' n partner = (i : ℕ) → i < n → (partner i < n) × (at i ≡ at' (partner i))
 
@@ -26,16 +26,12 @@ OneOrder =
     SameRecords at at' n partner →
     (i : ℕ) → i < n → at i ≡ at' i
 
--- a file's numbers are bytes
-abbrev pub Bytes : List ℕ → Type 0
-Bytes bytes = (i : ℕ) → byteAt bytes i < 256
-
 -- so their files of version 2 are the same, byte by byte
 abbrev pub OneFile : Type 0
 OneFile =
     (bytes bytes' : List ℕ) (partner : ℕ → ℕ) → Bytes bytes → Bytes bytes' → AllowedSurveyFile bytes → AllowedSurveyFile bytes' →
-    SEQUENCE-FROM ≤ versionOf bytes →
-    versionOf bytes ≡ versionOf bytes' →
+    versionOf bytes ≡ 2 →
+    versionOf bytes' ≡ 2 →
     countOf bytes ≡ countOf bytes' →
     NoEquals (recordAt bytes) (countOf bytes) →
     SameRecords (recordAt bytes) (recordAt bytes') (countOf bytes) partner →

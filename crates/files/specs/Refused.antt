@@ -1,5 +1,5 @@
 -- What a refusal says of its file, in plain words beside the ordered tests of `Header`, `SurveyFile` and `VehicleFile`: what it names has
--- the fault of its number, and nothing before that has any. proofs/ (Headers, Refusals, Surveys, Vehicles) shows that the ordered tests
+-- the fault of its number, and nothing before that has any. proofs/ (Headers, Refusals, Sequences, Surveys, Vehicles) shows that the ordered tests
 -- come to just this.
 use Prim.Native.Nat.{ℕ, _+_, _-_, _*_, _≤_, _<_}
 use mathlib.Core.Path.{_≡_}

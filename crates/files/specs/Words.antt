@@ -1,11 +1,15 @@
 -- The numbers of a file. Document 01, 'Files': "Little-endian."
-use Prim.Native.Nat.{ℕ, zero, suc, _+_, _*_}
+use Prim.Native.Nat.{ℕ, zero, suc, _+_, _*_, _<_}
 use mathlib.Core.List.{List, [], _∷_, _++_}
 use lib.ListN.{getD}
 
 -- the byte at a place
 abbrev pub byteAt : List ℕ → ℕ → ℕ
 byteAt bytes at = getD bytes at 0
+
+-- a list of bytes
+abbrev pub Bytes : List ℕ → Type 0
+Bytes bytes = (i : ℕ) → byteAt bytes i < 256
 
 -- the u16 at a place, its low byte first
 abbrev pub wordAt : List ℕ → ℕ → ℕ

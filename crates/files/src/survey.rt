@@ -1,5 +1,5 @@
-// Reading a survey file: the header's tests, then the first fault in record order, then from version 2 on the order of the records; then
-// the records.
+// Reading a survey file: the header's tests, then the first fault in record order, then from version 2 on the order of the records. Where
+// nothing is at fault the records are taken.
 use crate::Reading;
 use crate::Refusal;
 use crate::SurveyRead;
@@ -25,6 +25,7 @@ ghost use Rattle.files.specs.Reading.{firstFault, orElse};
 ghost use Rattle.member.specs.Fields.{MOST-MEMBERS};
 ghost use Rattle.files.specs.SurveyFile.{SURVEY-HEADER, RECORD, recordAt, recordFaults, sequenceAnswer, blankMember, blankSurvey, readSurvey};
 
+// The versions of a survey are 1 and 2.
 const LAST_VERSION: u32 = 2;
 
 // The letters, the version and the count.
@@ -76,7 +77,7 @@ fn first_fault(bytes: &[u8], count: usize) -> Reading
     answer
 }
 
-// The first fault of a record; where none has any, of their order from version 2 on.
+// The first record's fault; where no record has one, 16 for their order.
 fn records_answer(bytes: &[u8], count: usize) -> Reading
     requires { ⌜ (1 ≤ count) × (SURVEY-HEADER + RECORD * count ≤ length (now bytes)) ⌝ }
     ensures { λ r. ⌜ r ≡ orElse (firstFault 1 (recordFaults (now (bytes .entry)) count)) (sequenceAnswer (now (bytes .entry)) count) ⌝ }
