@@ -34,7 +34,7 @@ fn may_grow(first: &Words, word: usize) -> bool {
 }
 
 /// The second record is the first worn as much or more, "and all else equal".
-pub fn is_ordered(first: &Words, second: &Words) -> bool {
+pub fn is_worn(first: &Words, second: &Words) -> bool {
     (0..first.len()).all(|word| {
         if may_grow(first, word) {
             first[word] <= second[word]
@@ -51,7 +51,7 @@ fn disorder(first: &[Words], second: &[Words]) -> Option<u64> {
         return Some(0);
     }
     let mut pairs = first.iter().zip(second).zip(1..);
-    pairs.find(|((first, second), _)| !is_ordered(first, second)).map(|(_, place)| place)
+    pairs.find(|((first, second), _)| !is_worn(first, second)).map(|(_, place)| place)
 }
 
 /// Both ends judged: no survey between them bears less than the second or more than the first.

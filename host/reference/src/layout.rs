@@ -32,8 +32,9 @@ pub const LAST_KIND: u16 = 7;
 /// The kind of closely spaced stringers.
 pub const CLOSE_STRINGER: u16 = 7;
 
-/// The survey's versions: its records stand as they come, or in one order.
+/// The survey's version 1: its records stand as they come.
 pub const FREE_ORDER: u16 = 1;
+/// Version 2: its records stand in one order.
 pub const IN_ORDER: u16 = 2;
 
 /// The words of one record.

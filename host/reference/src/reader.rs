@@ -50,8 +50,8 @@ pub struct Vehicle {
     pub axles: Vec<Axle>,
 }
 
-/// How a file begins: its mark, the versions from 1, the bytes before the records, the most records
-/// and the bytes of each.
+/// How a file begins: its mark, its last version (the first is 1), the bytes before the records, the
+/// most records and the bytes of each.
 struct Form {
     mark: &'static [u8; 3],
     last_version: u16,

@@ -29,8 +29,8 @@ enum Wrong {
     ListBeforeOrder,
     OneEntryAMember,
     CountAtPlaceOne,
-    MisplacedAfterSecond,
-    MisplacedAfterOrder,
+    SixteenAfterTheSecond,
+    SixteenAfterFifteen,
 }
 
 const WRONG: [Wrong; 18] = [
@@ -50,12 +50,12 @@ const WRONG: [Wrong; 18] = [
     Wrong::ListBeforeOrder,
     Wrong::OneEntryAMember,
     Wrong::CountAtPlaceOne,
-    Wrong::MisplacedAfterSecond,
-    Wrong::MisplacedAfterOrder,
+    Wrong::SixteenAfterTheSecond,
+    Wrong::SixteenAfterFifteen,
 ];
 
 /// Is this word of the second record as it should be?
-fn in_order(wrong: Option<Wrong>, first: &Words, second: &Words, word: usize) -> bool {
+fn word_fits(wrong: Option<Wrong>, first: &Words, second: &Words, word: usize) -> bool {
     let is = |what| wrong == Some(what);
     let close = first[KIND] == 7;
     let wearing = wears(first, word);
@@ -76,7 +76,7 @@ fn out_of_order(wrong: Option<Wrong>, first: &[Words], second: &[Words]) -> Opti
     if first.len() != second.len() {
         return Some((15, u64::from(wrong == Some(Wrong::CountAtPlaceOne))));
     }
-    let ordered = |(one, other)| (0..16).all(|word| in_order(wrong, one, other, word));
+    let ordered = |(one, other)| (0..16).all(|word| word_fits(wrong, one, other, word));
     let place = first.iter().zip(second).position(|pair| !ordered(pair))?;
     Some((15, place as u64 + 1))
 }
@@ -96,8 +96,8 @@ fn refusal(wrong: Option<Wrong>, call: &Call) -> Option<(u64, u64)> {
     ];
     let late = |test: Option<(u64, u64)>| test.is_some_and(|refused| refused.0 == 16);
     match wrong {
-        Some(Wrong::MisplacedAfterSecond) if late(tests[1]) => tests.swap(1, 2),
-        Some(Wrong::MisplacedAfterOrder) if late(tests[2]) => tests.swap(2, 3),
+        Some(Wrong::SixteenAfterTheSecond) if late(tests[1]) => tests.swap(1, 2),
+        Some(Wrong::SixteenAfterFifteen) if late(tests[2]) => tests.swap(2, 3),
         Some(Wrong::VehicleLast) => tests.rotate_left(1),
         Some(Wrong::SecondBeforeFirst) => tests.swap(1, 2),
         Some(Wrong::OrderBeforeSecond) => tests.swap(2, 3),

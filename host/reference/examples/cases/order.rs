@@ -93,7 +93,7 @@ fn turns(script: &mut Script) {
         script.survey(&with_byte(&file, 5, count));
     }
     script.title("versions of a survey");
-    for version in [0, 3, 256, 258] {
+    for version in [0, 3, 256, 257, 258] {
         script.survey(&with_version(&survey_of(&falling[..1]), version));
     }
     script.survey(&with_version(&file, 3));

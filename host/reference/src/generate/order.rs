@@ -72,8 +72,8 @@ pub fn full_survey_file(random: &mut Random, spread: Spread) -> Vec<u8> {
     some_version(random, &members)
 }
 
-/// So many members and a version; where it is that of the order they are in it, or one record or
-/// any of them is not.
+/// So many members and a version. In version 2 they stand in order, or one is misplaced, or all
+/// stand as they come.
 pub(super) fn some_order(random: &mut Random, spread: Spread, count: usize) -> (u16, Vec<Words>) {
     let members = any_survey(random, spread, count);
     match random.below(8) {
@@ -108,7 +108,7 @@ fn lower(random: &mut Random, kind: u16, word: usize, value: u16) -> Option<u16>
     Some(random.edgy(least, value - 1))
 }
 
-/// A record that stands before this one by this word, though behind it by the words that follow.
+/// A record that stands before this one by this word, and mostly behind it by the words that follow.
 /// None where there is none: no kind is before the first, and cross beams have no spacing.
 pub fn one_before(random: &mut Random, record: &Words, way: Misplaced) -> Option<Words> {
     let [kind, span, spacing] = [record[KIND], record[SPAN], record[SPACING]];
@@ -122,14 +122,14 @@ pub fn one_before(random: &mut Random, record: &Words, way: Misplaced) -> Option
     Some(member_at(random, Spread::Usual, at))
 }
 
-/// Puts a record before its predecessor in its place; false where there is none.
+/// Puts a record that stands before its predecessor at this index; false where there is none.
 pub fn misplace(random: &mut Random, records: &mut [Words], i: usize, way: Misplaced) -> bool {
     let before = one_before(random, &records[i - 1], way);
     records[i] = before.unwrap_or(records[i]);
     before.is_some()
 }
 
-/// Puts any record before its predecessor, where there is one with such a record before it.
+/// The same at any index, where there is such a record.
 pub(super) fn misplace_one(random: &mut Random, records: &mut [Words]) {
     if records.len() > 1 {
         let (i, way) = (1 + random.below(records.len() - 1), *random.pick(&Misplaced::ALL));

@@ -45,7 +45,7 @@ pub fn worse_survey(random: &mut Random, members: &[Words], wear: Wear, more: us
     worse
 }
 
-/// A worse survey whose records stand in other places than those of the first.
+/// A worse survey whose records may stand in other places than those of the first.
 pub struct Matched {
     pub records: Vec<Words>,
     /// Where the record that each record of the first is matched with stands, from 0.
