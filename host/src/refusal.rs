@@ -71,8 +71,8 @@ impl Refusal {
                 format!("the species is not 1 to {last}")
             }
             (16, Which::Survey) => format!(
-                "it comes before its predecessor, and from version {ORDERED_FROM} members stand \
-                 {ORDER}"
+                "it stands behind a member that it must come before; from version {ORDERED_FROM} \
+                 members stand {ORDER}"
             ),
             _ => self.fixed_meaning().to_string(),
         }

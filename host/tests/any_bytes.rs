@@ -24,8 +24,8 @@ fn damaged_files() {
     }
 }
 
-/// Records of version 2 that all but stand in order: every pair of neighbours exchanged, and any
-/// byte changed.
+/// Records of version 2 in order but for two neighbours that are exchanged; in one file of four a
+/// byte is changed too.
 #[test]
 fn records_all_but_in_order() {
     let first = seed(0xda3_0004);

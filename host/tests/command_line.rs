@@ -4,7 +4,8 @@ mod cli;
 
 use cli::{answer, run, sample, tbr, text, Folder};
 use std::path::Path;
-use tbr::form::{Field, Value, AXLE, HEADING, KINDS, ORDER, SECTIONS, VERSION};
+use tbr::form::{Field, Value, AXLE, FIRST_VERSION, HEADING, KINDS, ORDER, SECTIONS, VERSION};
+use tbr::Which;
 
 #[test]
 fn a_bridge_that_passes() {
@@ -211,7 +212,9 @@ fn members_out_of_order() {
         assert!(error.starts_with(&said), "{words:?}: {error}");
     }
     assert_eq!(folder.names(), ["wrong.tbr", "wrong.txt"]);
-    assert_eq!(run(&["judge", "forest-road.txt", "lorry.tbv"]).0, 0);
+    for survey in ["forest-road.tbr", "forest-road.txt"] {
+        assert_eq!(run(&["judge", survey, "lorry.tbv"]).0, 0, "{survey}");
+    }
 }
 
 /// The same answers from the file and from its text form.
@@ -413,7 +416,8 @@ fn help_and_version() {
     assert_eq!(run(&["--version"]), (0, version, String::new()));
 }
 
-/// The page on the text form has every kind, section, field, unit and word of the tables.
+/// The page on the text form has every kind, section, field, unit and word of the tables, the kinds
+/// in their order, and the versions.
 #[test]
 fn the_page_on_the_text_form_is_whole() {
     let page = run(&["make", "--help"]).1.split_whitespace().collect::<Vec<_>>().join(" ");
@@ -431,6 +435,11 @@ fn the_page_on_the_text_form_is_whole() {
         section.fields.iter().for_each(field);
     }
     HEADING.iter().chain(&AXLE).chain([&VERSION]).for_each(field);
+    let places = KINDS.iter().map(|kind| page.find(&format!(" {}", kind.name)));
+    assert!(places.is_sorted_by(|one, other| one < other && one.is_some()), "{page}");
+    let [first, last] = [FIRST_VERSION, Which::Survey.layout().last_version];
+    has(&format!("The version of a survey is {first} or {last}, and {first} where"));
+    has(ORDER.strip_prefix("by kind, ").unwrap());
 }
 
 /// One line, and it says where help is.

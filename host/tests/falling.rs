@@ -7,7 +7,7 @@
 mod common;
 
 use common::seed;
-use reference::between::is_ordered;
+use reference::between::is_worn;
 use reference::generate::*;
 use reference::layout::*;
 use std::collections::BTreeMap;
@@ -39,7 +39,8 @@ fn same_places(first: &Bridge) -> Vec<usize> {
     (0..first.members.len()).collect()
 }
 
-/// Each member of the first bridge with its partner in the second, which stands there.
+/// Each member of the first bridge with its partner; `partners` has their places in the second, from
+/// 0.
 fn shared<'a>(
     first: &'a Bridge,
     second: &'a Bridge,
@@ -52,6 +53,18 @@ fn shared<'a>(
 /// Whatever wears: the vehicle load of a shared member.
 fn no_lighter(one: &MemberLoads, other: &MemberLoads, seed: u64) {
     assert!(other.vehicle >= one.vehicle, "TBR_SEED={seed}: {one:?} then {other:?}");
+}
+
+/// Whatever wears: closely spaced stringers may bear more, no other member does. Does this one?
+fn only_close_stringers_rise(
+    words: &Words,
+    one: &MemberLoads,
+    other: &MemberLoads,
+    seed: u64,
+) -> bool {
+    let rises = other.permitted > one.permitted;
+    assert!(!rises || words[KIND] == CLOSE_STRINGER, "TBR_SEED={seed}: {words:?}");
+    rises
 }
 
 /// A shared member of which the second is the first, worn.
@@ -142,7 +155,7 @@ impl TwoSurveys {
         let mut all = Vec::new();
         for (i, one) in self.first.iter().enumerate() {
             for (j, other) in self.second.records.iter().enumerate() {
-                if j != self.second.partners[i] && is_ordered(one, other) {
+                if j != self.second.partners[i] && is_worn(one, other) {
                     all.push([i, j]);
                 }
             }
@@ -178,7 +191,6 @@ impl Seen {
         let (pairs, moved) = self.versions.entry(surveys.versions).or_default();
         *pairs += 1;
         *moved += surveys.moved();
-        self.other_matches += surveys.other_matches().len();
         self.lower += u32::from(second.judgement.figure < first.judgement.figure);
         self.turned += u32::from(first.judgement.passes && !second.judgement.passes);
     }
@@ -186,7 +198,7 @@ impl Seen {
     /// The pairs are worth something only if records move, in all four pairs of versions.
     fn hold(&self, pairs: u64) {
         let Seen { versions, lower, .. } = self;
-        let often = |&(met, moved): &(u64, usize)| met > pairs / 5 && moved as u64 > met;
+        let often = |&(met, moved): &(u64, usize)| met > pairs / 8 && moved as u64 > met;
         assert!(versions.len() == 4 && versions.values().all(often), "{versions:?}");
         assert!(u64::from(*lower) > pairs / 20, "{lower} figures fell");
     }
@@ -202,6 +214,7 @@ fn matched_pair(seen: &mut Seen, random: &mut Random, members: &[Words], more: u
     never_better(&first, &second, &surveys.second.partners, seed);
     for [i, j] in surveys.other_matches() {
         no_better(&first.members[i], &second.members[j], seed);
+        seen.other_matches += 1;
     }
     seen.add(&surveys, &first, &second);
 }
@@ -253,8 +266,7 @@ fn vehicle_loads_of_matched_records_never_fall() {
         let pairs = shared(&first, &second, &surveys.second.partners);
         for (words, (one, other)) in surveys.first.iter().zip(pairs) {
             no_lighter(one, other, seed);
-            let rises = other.permitted > one.permitted;
-            assert!(!rises || words[KIND] == CLOSE_STRINGER, "TBR_SEED={seed}: {words:?}");
+            only_close_stringers_rise(words, one, other, seed);
             heavier += u32::from(other.vehicle > one.vehicle);
         }
         moved += surveys.moved();
@@ -299,9 +311,7 @@ fn vehicle_loads_never_fall_whatever_wears() {
         let places = same_places(&first);
         for (words, (one, other)) in members.iter().zip(shared(&first, &second, &places)) {
             no_lighter(one, other, seed);
-            let rises = other.permitted > one.permitted;
-            assert!(!rises || words[KIND] == CLOSE_STRINGER, "TBR_SEED={seed}: {words:?}");
-            rose += u32::from(rises);
+            rose += u32::from(only_close_stringers_rise(words, one, other, seed));
             heavier += u32::from(words[KIND] == CLOSE_STRINGER && other.vehicle > one.vehicle);
         }
     }

@@ -132,15 +132,15 @@ fn numbers_at_the_edges() {
     }
 }
 
-/// One damage in each way at each place of the largest files, and every version that no file has.
+/// One damage in each way at each place of the largest files, and versions that no file has.
 #[test]
 fn refusals_at_every_place() {
     let first = seed(0x7b2_0005);
     for seed in first..first + 20 {
         let mut random = Random::new(seed);
         let of_records = [damaged_surveys(&mut random), damaged_vehicles(&mut random)];
-        let of_versions = [misplaced_surveys(&mut random), wrong_versions(&mut random)];
-        for all in of_records.into_iter().chain(of_versions) {
+        let of_order = [misplaced_surveys(&mut random), wrong_versions(&mut random)];
+        for all in of_records.into_iter().chain(of_order) {
             for Damaged { survey, vehicle, refusal } in all {
                 assert_eq!(library(&survey, &vehicle), Err(refusal), "TBR_SEED={seed}");
             }

@@ -5,6 +5,7 @@
 mod common;
 
 use reference::generate::*;
+use reference::layout::standing;
 use tbr::file::{self, Contents, Member, Survey};
 use tbr::form::{explain, read, write, Problem, TextError};
 use tbr::{check_survey, Refusal, Which};
@@ -158,70 +159,22 @@ fn members_out_of_order_beside_other_faults() {
     }
 }
 
-/// A member beside another of its kind: with a greater span or spacing, or equal in both.
-fn beside(random: &mut Random, words: &Member) -> Member {
-    let [cross_beam, close_stringer] = [2, 7];
-    let mut words = *words;
-    match random.below(4) {
-        0 => words[2] = 5000,
-        1 if words[0] == close_stringer => words[3] = 100,
-        1 if words[0] != cross_beam => words[3] = 1000,
-        2 => words[6] = random.between(0, 10_000),
-        _ => {}
-    }
-    words
-}
-
-/// What the order goes by.
-fn key(words: &Member) -> [u16; 3] {
-    [words[0], words[2], words[3]]
-}
-
-/// Members of all kinds, many of them beside another of their kind: as they come, sorted, or sorted
-/// but for two.
+/// Members as they come, in order, or in order but for two neighbours; often alike, so that any of
+/// the three numbers decides.
 fn some_members(random: &mut Random) -> Vec<Member> {
-    let count = 1 + random.below(6);
-    let mut members: Vec<Member> = survey(random, Spread::Usual, count);
-    for _ in 0..random.below(8) {
-        let other = *random.pick(&members);
-        let place = random.below(members.len() + 1);
-        members.insert(place, beside(random, &other));
+    let count = 2 + random.below(11);
+    let alike = random.once_in(2);
+    let members = if alike { alike_survey } else { survey }(random, Spread::Usual, count);
+    let how = random.below(3);
+    if how == 0 {
+        return members;
     }
-    match random.below(3) {
-        0 => {}
-        1 => members.sort_by_key(key),
-        _ => {
-            members.sort_by_key(key);
-            let [one, other] = [random.below(members.len()), random.below(members.len())];
-            members.swap(one, other);
-        }
+    let mut members = in_order(&members);
+    if how == 1 {
+        let place = 1 + random.below(count - 1);
+        members.swap(place - 1, place);
     }
     members
-}
-
-/// Text to file to text to file, in both versions; the library takes what the text form takes.
-#[test]
-fn both_versions_go_to_text_and_back() {
-    let seed = common::seed(0x08de_0001);
-    let mut random = Random::new(seed);
-    for i in 0..2000 {
-        let members = some_members(&mut random);
-        let mut sorted = members.clone();
-        sorted.sort_by_key(key);
-        for (version, members, heading) in
-            [(1, members, "survey\n"), (2, sorted, "survey, version 2\n")]
-        {
-            let contents = contents(version, &members);
-            let bytes = contents.bytes().unwrap();
-            assert_eq!(bytes[3..5], version.to_le_bytes());
-            assert_eq!(check_survey(&bytes), Ok(()), "TBR_SEED={seed}, {i}");
-            assert_eq!(file::survey(&bytes).map(Contents::Survey), Some(contents.clone()));
-            let text = write(&contents).unwrap();
-            assert!(text.starts_with(heading), "{text}");
-            let again = read(text.as_bytes()).unwrap();
-            assert_eq!((again.bytes(), write(&again)), (Some(bytes), Some(text)));
-        }
-    }
 }
 
 /// The two numbers that are compared.
@@ -246,7 +199,7 @@ fn the_text_form_asks_for_the_librarys_order() {
         let (bytes, text) = (contents.bytes().unwrap(), write(&contents).unwrap());
         let faults = read(text.as_bytes()).err().unwrap_or_default();
         let lines: Vec<usize> = faults.iter().map(|fault| fault.line).collect();
-        let falls = |pair: &[Member]| key(&pair[1]) < key(&pair[0]);
+        let falls = |pair: &[Member]| standing(&pair[1]) < standing(&pair[0]);
         let falling = members.windows(2).zip(3..).filter(|(pair, _)| falls(pair));
         let expected: Vec<usize> = falling.map(|(_, line)| line).collect();
         assert_eq!(lines, expected, "TBR_SEED={seed}, {i}: {text}");
@@ -314,7 +267,9 @@ fn refusal_16_in_words() {
         assert_eq!(explained, [format!("{words}; {ORDER}")]);
     }
     let refusal = Refusal { file: Which::Survey, number: 16, place: 3 };
-    let words = "survey refused, number 16 at member 3: it comes before its predecessor, and ";
+    let words =
+        "survey refused, number 16 at member 3: it stands behind a member that it must come \
+                 before; ";
     assert_eq!(refusal.to_string(), format!("{words}{ORDER}"));
     // It is of records beside each other: of these none is at fault.
     assert_eq!(explain(ORDERED, &refusal), []);

@@ -297,6 +297,11 @@ fn refusals_of_other_bytes_name_nothing() {
             }
         }
     }
+    // Its members stand in no order, which version 1 does not ask for.
+    for place in 0..=8 {
+        let refusal = Refusal { file: Which::Survey, number: 16, place };
+        assert_eq!(explain(FOREST_ROAD, &refusal), [], "{refusal}");
+    }
 }
 
 /// The public functions on any bytes: an answer or none, no panic.

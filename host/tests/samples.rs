@@ -79,6 +79,11 @@ fn the_ordered_bridge_bears_the_lorry() {
     let (survey, vehicle) = (sample("ordered.tbr"), sample("lorry.tbv"));
     let judgement = judge(&survey, &vehicle).unwrap();
     assert_eq!((judgement.figure, judgement.governing, judgement.passes), (3062, 2, true));
+    let loads_of = |survey: &[u8]| -> Vec<[u64; 2]> {
+        let members = tbr::member_loads(survey, &vehicle).unwrap();
+        members.iter().map(|member| [member.permitted, member.vehicle]).collect()
+    };
+    let loads = loads_of(&survey);
     let first_version = |survey: &mut Survey| survey.version = 1;
     assert_eq!(judge(&changed(&survey, first_version), &vehicle), Ok(judgement));
     let [equal, next] = [2, 3];
@@ -88,7 +93,10 @@ fn the_ordered_bridge_bears_the_lorry() {
         let swapped = swapped((one, one + 1));
         let refusal = judge(&swapped, &vehicle).unwrap_err();
         assert_eq!((refusal.number, refusal.place), (16, place), "{refusal}");
-        assert!(judge(&changed(&swapped, first_version), &vehicle).is_ok());
+        let free = changed(&swapped, first_version);
+        let mut expected = loads.clone();
+        expected.swap(one, one + 1);
+        assert_eq!(loads_of(&free), expected, "{one}");
     }
 }
 

@@ -10,7 +10,7 @@ use tbr::form::{
     look, read, write, Field, Look, Problem, TextError, Value, AXLE, FIRST_AXLE, HEADING, KINDS,
     SECTIONS,
 };
-use tbr::Which;
+use tbr::{check_survey, Which};
 
 const STRINGER: &str = "stringer, species pine, span 500 cm, spacing 140 cm, dead load 100 kgf/m, \
                         section log, diameter 28 cm, rot 0 cm, tiers 1";
@@ -19,6 +19,7 @@ const JOINT: &str = "steel plates, span 1200 cm, spacing 420 cm, from support 60
                      section area, area 14 cm2, lost area 2 cm2";
 const AXLES: &str = "axle, weight 1500 kgf, distance 0 cm\naxle, weight 3000 kgf, distance 370 cm";
 
+/// Surveys of both versions and vehicles.
 #[test]
 fn files_go_to_text_and_back() {
     let seed = seed(0x7e87_0001);
@@ -26,9 +27,12 @@ fn files_go_to_text_and_back() {
     for i in 0..2000 {
         let spread = if i % 2 == 0 { Spread::Wide } else { Spread::Usual };
         let (members, axles) = (1 + random.below(64), 1 + random.below(16));
-        let survey = survey_bytes(&survey(&mut random, spread, members));
+        let survey = survey_file(&mut random, spread, members);
         let vehicle = vehicle_bytes(&vehicle(&mut random, spread, axles));
+        assert_eq!(check_survey(&survey), Ok(()), "TBR_SEED={seed}, {i}");
         let surveyed = Contents::Survey(file::survey(&survey).unwrap());
+        let heading = ["survey\n", "survey, version 2\n"][usize::from(surveyed.version() - 1)];
+        assert!(write(&surveyed).is_some_and(|text| text.starts_with(heading)), "{surveyed:?}");
         let driven = Contents::Vehicle(file::vehicle(&vehicle).unwrap());
         for (contents, bytes) in [(surveyed, survey), (driven, vehicle)] {
             assert_eq!(contents.bytes(), Some(bytes), "TBR_SEED={seed}, {i}");

@@ -86,18 +86,15 @@ fn member(words: &Member, number: u64) -> Option<Vec<FieldFault>> {
     }
 }
 
-/// The number of a member that stands before its predecessor.
-const OUT_OF_ORDER: u64 = 16;
-
-/// What puts the member of this place before its predecessor.
+/// Number 16: what puts the member of this place before its predecessor, in a version that asks for the order.
 fn before_predecessor(bytes: &[u8], place: u64) -> Option<FieldFault> {
-    let members = file::members(bytes);
+    let survey = file::survey(bytes).filter(|survey| survey.version >= ORDERED_FROM)?;
+    let members = survey.members;
     let earlier = place.checked_sub(1)?;
     let of = |place: u64| members.get(usize::try_from(place).ok()?.checked_sub(1)?);
     let (before, words) = (of(earlier)?, of(place)?);
     let (word, problem) = order::misplaced(before, words, format!("member {earlier}"))?;
-    let field = order::field_of(words, word).map_or(MEMBER_LETTERS[word].to_string(), named);
-    Some(FieldFault { field, problem })
+    Some(FieldFault { field: order::called(words, word, named), problem })
 }
 
 /// The record that a refusal is about.
@@ -127,7 +124,7 @@ fn record(bytes: &[u8], refusal: &Refusal) -> Option<Record> {
 pub fn explain(bytes: &[u8], refusal: &Refusal) -> Vec<FieldFault> {
     let name = |field: &Field| field.name.to_string();
     match record(bytes, refusal) {
-        Some(Record::Member(_)) if refusal.number == OUT_OF_ORDER => {
+        Some(Record::Member(_)) if refusal.number == 16 => {
             before_predecessor(bytes, refusal.place).into_iter().collect()
         }
         Some(Record::Member(words)) => member(&words, refusal.number).unwrap_or_default(),

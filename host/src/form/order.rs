@@ -19,8 +19,13 @@ fn deciding(before: &Member, later: &Member) -> Option<usize> {
 }
 
 /// The field of this word in a member; the kind is none.
-pub fn field_of(words: &Member, word: usize) -> Option<&'static Field> {
+fn field_of(words: &Member, word: usize) -> Option<&'static Field> {
     kind_of(words)?.field(word)
+}
+
+/// What the number in this word is called; a field by its name.
+pub fn called(words: &Member, word: usize, name: impl Fn(&Field) -> String) -> String {
+    field_of(words, word).map_or(MEMBER_LETTERS[word].to_string(), name)
 }
 
 /// A member's number in this word as people read it: a kind by its term, a length by its unit.

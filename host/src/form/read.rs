@@ -101,8 +101,8 @@ fn out_of_order(members: &[(usize, Member)], faults: &[TextError]) -> Vec<TextEr
     let fault = |pair: &[&(usize, Member)]| {
         let [(earlier, before), (line, words)] = *pair else { return None };
         let (word, problem) = order::misplaced(before, words, format!("line {earlier}"))?;
-        let name = order::field_of(words, word).map_or(MEMBER_LETTERS[word], |field| field.name);
-        Some(TextError { line: *line, field: name.to_string(), problem })
+        let field = order::called(words, word, |field| field.name.to_string());
+        Some(TextError { line: *line, field, problem })
     };
     sound.windows(2).filter_map(fault).collect()
 }
