@@ -86,7 +86,8 @@ fn member(words: &Member, number: u64) -> Option<Vec<FieldFault>> {
     }
 }
 
-/// Number 16: what puts the member of this place before its predecessor, in a version that asks for the order.
+/// Number 16: what puts the member of this place before its predecessor, in a version that asks for
+/// the order.
 fn before_predecessor(bytes: &[u8], place: u64) -> Option<FieldFault> {
     let survey = file::survey(bytes).filter(|survey| survey.version >= ORDERED_FROM)?;
     let members = survey.members;
