@@ -128,8 +128,15 @@ struct TwoSurveys {
 }
 
 impl TwoSurveys {
-    fn new(random: &mut Random, members: &[Words], wear: Wear, more: usize) -> TwoSurveys {
-        let versions = [0, 1].map(|_| *random.pick(&[FREE_ORDER, IN_ORDER]));
+    /// The pairs of versions take turns by the seed.
+    fn new(
+        (random, seed): (&mut Random, u64),
+        members: &[Words],
+        wear: Wear,
+        more: usize,
+    ) -> TwoSurveys {
+        let all = [FREE_ORDER, IN_ORDER];
+        let versions = [all[(seed % 2) as usize], all[(seed / 2 % 2) as usize]];
         let first = if versions[0] == IN_ORDER { in_order(members) } else { members.to_vec() };
         let second = matched_survey(random, &first, wear, more, versions[1]);
         TwoSurveys { versions, first, second }
@@ -198,7 +205,7 @@ impl Seen {
     /// The pairs are worth something only if records move, in all four pairs of versions.
     fn hold(&self, pairs: u64) {
         let Seen { versions, lower, .. } = self;
-        let often = |&(met, moved): &(u64, usize)| met > pairs / 8 && moved as u64 > met;
+        let often = |&(met, moved): &(u64, usize)| met == pairs / 4 && moved as u64 > met;
         assert!(versions.len() == 4 && versions.values().all(often), "{versions:?}");
         assert!(u64::from(*lower) > pairs / 20, "{lower} figures fell");
     }
@@ -209,7 +216,7 @@ fn matched_pair(seen: &mut Seen, random: &mut Random, members: &[Words], more: u
     let axles = 1 + random.below(6);
     let vehicle = vehicle(random, Spread::Usual, axles);
     let heavier = worse_vehicle(random, &vehicle, 3);
-    let surveys = TwoSurveys::new(random, members, Wear::SameSpread, more);
+    let surveys = TwoSurveys::new((random, seed), members, Wear::SameSpread, more);
     let [first, second] = surveys.judged([&vehicle, &heavier], seed);
     never_better(&first, &second, &surveys.second.partners, seed);
     for [i, j] in surveys.other_matches() {
@@ -261,7 +268,7 @@ fn vehicle_loads_of_matched_records_never_fall() {
         let (members, axles) = (some_members(&mut random, 4), 1 + random.below(4));
         let vehicle = vehicle(&mut random, Spread::Usual, axles);
         let heavier_vehicle = worse_vehicle(&mut random, &vehicle, 3);
-        let surveys = TwoSurveys::new(&mut random, &members, Wear::Any, 3);
+        let surveys = TwoSurveys::new((&mut random, seed), &members, Wear::Any, 3);
         let [first, second] = surveys.judged([&vehicle, &heavier_vehicle], seed);
         let pairs = shared(&first, &second, &surveys.second.partners);
         for (words, (one, other)) in surveys.first.iter().zip(pairs) {

@@ -267,10 +267,9 @@ fn refusal_16_in_words() {
         assert_eq!(explained, [format!("{words}; {ORDER}")]);
     }
     let refusal = Refusal { file: Which::Survey, number: 16, place: 3 };
-    let words =
-        "survey refused, number 16 at member 3: it stands behind a member that it must come \
-                 before; ";
-    assert_eq!(refusal.to_string(), format!("{words}{ORDER}"));
+    let words = "it stands behind a member that it must come before";
+    let expected = format!("survey refused, number 16 at member 3: {words}; {ORDER}");
+    assert_eq!(refusal.to_string(), expected);
     // It is of records beside each other: of these none is at fault.
     assert_eq!(explain(ORDERED, &refusal), []);
 }

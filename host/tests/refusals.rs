@@ -297,7 +297,7 @@ fn refusals_of_other_bytes_name_nothing() {
             }
         }
     }
-    // Its members stand in no order, which version 1 does not ask for.
+    // Its members do not stand in order, and version 1 does not ask for it.
     for place in 0..=8 {
         let refusal = Refusal { file: Which::Survey, number: 16, place };
         assert_eq!(explain(FOREST_ROAD, &refusal), [], "{refusal}");

@@ -9,7 +9,7 @@ use crate::refusal::Which;
 pub struct Layout {
     /// The three letters.
     pub mark: &'static [u8; 3],
-    /// The last version that is taken; the first is [`FIRST_VERSION`], and so are those between.
+    /// The last version that is taken, from [`FIRST_VERSION`] on.
     pub last_version: u16,
     /// What a record is called.
     pub record: &'static str,
