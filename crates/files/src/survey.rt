@@ -77,7 +77,7 @@ fn first_fault(bytes: &[u8], count: usize) -> Reading
     answer
 }
 
-// The first record's fault; where no record has one, 16 for their order.
+// The first fault in record order; where no record has one, 16 for their order.
 fn records_answer(bytes: &[u8], count: usize) -> Reading
     requires { ⌜ (1 ≤ count) × (SURVEY-HEADER + RECORD * count ≤ length (now bytes)) ⌝ }
     ensures { λ r. ⌜ r ≡ orElse (firstFault 1 (recordFaults (now (bytes .entry)) count)) (sequenceAnswer (now (bytes .entry)) count) ⌝ }
