@@ -15,8 +15,8 @@ use Rattle.files.specs.Words.{byteAt, Bytes}
 use Rattle.files.specs.Reading.{_unless_, firstOf, isIn}
 use Rattle.files.specs.Header.{marked, headerFault}
 use Rattle.files.specs.SurveyFile.{countOf}
-use Rattle.files.specs.VehicleFile.{VEHICLE-HEADER, AXLE, VEHICLE-VERSIONS, axlesOf, axleFaults, blankVehicle, vehicleHeader, vehicleAnswer, readVehicle}
-use Rattle.files.specs.declared.VehicleRead.{VehicleRead}
+use Rattle.vehicles.specs.VehicleFile.{VEHICLE-HEADER, AXLE, VEHICLE-VERSIONS, axlesOf, axleFaults, blankVehicle, vehicleHeader, vehicleAnswer, readVehicle}
+use Rattle.vehicles.specs.declared.VehicleRead.{VehicleRead}
 use Rattle.files.proofs.Tests.{first-is}
 use Rattle.files.proofs.Faults.{refusal, head-first}
 use Rattle.session.specs.Answers.{Outcome}

@@ -8,7 +8,7 @@ use Rattle.session.specs.Answers.{Outcome}
 use Rattle.session.specs.Calls.{loadFiles}
 use Rattle.files.specs.Words.{Bytes}
 use Rattle.files.specs.SurveyFile.{SURVEY-HEADER, RECORD, countOf}
-use Rattle.files.specs.VehicleFile.{VEHICLE-HEADER, AXLE}
+use Rattle.vehicles.specs.VehicleFile.{VEHICLE-HEADER, AXLE}
 
 -- an input too short to hold a count is shorter than 6 as well
 abbrev pub surveyLength : List ℕ → ℕ

@@ -4,7 +4,7 @@ use Prim.Native.Nat.{ℕ, _*_}
 use mathlib.Core.Path.{_≡_, refl, ap}
 use mathlib.Core.List.{List, [], _++_}
 use lib.ListN.{take, drop}
-use Rattle.files.specs.YardFile.{vehiclesOf}
+use Rattle.vehicles.specs.YardFile.{vehiclesOf}
 use Rattle.files.specs.declared.Reading.the-variants.{Taken, Refused}
 use Rattle.files.specs.declared.Refusal.{Refusal}
 use Rattle.session.specs.Answers.{Answer, Values, WithMargin, RefusedAt, Outcome, loaded, yardAnswer, refusedBy}

@@ -3,7 +3,7 @@
 use Prim.Native.Nat.{ℕ, _*_, _/_}
 use mathlib.Core.List.{List, _++_, map}
 use lib.ListN.{length, drop, getD}
-use Rattle.files.specs.YardFile.{vehiclesOf, joined}
+use Rattle.vehicles.specs.YardFile.{vehiclesOf, joined}
 use Rattle.session.specs.Answers.{Answer, Outcome, numberOf, placeOf, valuesOf}
 use Rattle.session.specs.Calls.{newSession, loadSurvey, unlessRefused, andThen}
 use Rattle.session.specs.Yard.{Entry, vehicleAnswers, yardAnswered}

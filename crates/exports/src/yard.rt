@@ -3,17 +3,17 @@ ghost use mathlib.Core.Path.{_≡_};
 ghost use Prim.Native.Nat.{_*_, _≤_};
 ghost use mathlib.Core.List.{_++_};
 ghost use lib.ListN.{length, take, drop};
-ghost use Rattle.files.specs.YardFile.{MOST-VEHICLES};
+ghost use Rattle.vehicles.specs.YardFile.{MOST-VEHICLES};
 ghost use Rattle.session.specs.Answers.{yardAnswer};
 ghost use Rattle.session.specs.Yard.{entries};
 ghost use Rattle.exports.specs.YardNumbers.{yardNumbersOf, numbersIn, yardNumbers, yardNumberList};
 use files::Reading;
-use files::yard::MOST_VEHICLES;
 use rating::judging::Judgement;
 use session::Session;
 use session::verdict_number;
 use session::yard::YardJudged;
 use session::yard::yard_answers;
+use vehicles::yard::MOST_VEHICLES;
 
 // Number and place of a refusal, both 0 where there is none; then the number of vehicles, whose answers the list has, and of those that
 // pass, both 0 where anything is refused. The host's declaration has the same fields in the same order.

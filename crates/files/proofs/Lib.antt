@@ -1,7 +1,7 @@
--- Cited by other crates: `Surveys`, `Vehicles` and `Yards`, with the laws of their parts, and `Tests`.
+-- Cited by other crates: `Surveys`, with the laws of its parts, `Headers`, `Each`, `Faults` and `Tests`.
 pub mod Tests
 mod Tables
-mod Headers
+pub mod Headers
 pub mod Each
 pub mod Faults
 pub mod Members
@@ -9,5 +9,3 @@ mod Sequences
 mod OneOrder
 pub mod Refusals
 pub mod Surveys
-pub mod Vehicles
-pub mod Yards

@@ -1,14 +1,13 @@
--- What the documents allow a survey file and a vehicle file to be, with no order of tests in it.
+-- What the documents allow a survey file to be, with no order of tests in it.
 use Prim.Native.Nat.{ℕ, _+_, _*_, _≤_, _<_}
 use mathlib.Core.Path.{_≡_}
 use mathlib.Core.List.{List, [], _∷_}
 use lib.ListN.{length, take}
-use Rattle.member.specs.Format.{_‥_, In, AllowedMember, AllowedVehicle}
+use Rattle.member.specs.Format.{_‥_, In, AllowedMember}
 use Rattle.files.specs.Header.{versionOf}
 use Rattle.files.specs.Sequence.{InSequence}
 use Rattle.member.specs.Fields.{MOST-MEMBERS}
 use Rattle.files.specs.SurveyFile.{SURVEY-HEADER, RECORD, SURVEY-VERSIONS, SEQUENCE-FROM, countOf, recordAt}
-use Rattle.files.specs.VehicleFile.{VEHICLE-HEADER, AXLE, axlesOf, vehicleOf}
 
 -- "Survey: the letters TBR, u16 version 1, u8 count 1..64, then per member 16 u16"; and version 2, document 02, request 8/13
 pub record AllowedSurveyFile (bytes : List ℕ) : Type 0 where
@@ -19,10 +18,3 @@ pub record AllowedSurveyFile (bytes : List ℕ) : Type 0 where
   pub members : (i : ℕ) → i < countOf bytes → AllowedMember (recordAt bytes i)
   -- "From survey version 2 the records stand by kind, then span, then spacing, each rising .. Version 1 keeps free order."
   pub order : SEQUENCE-FROM ≤ versionOf bytes → InSequence (recordAt bytes) (countOf bytes)
-
--- "Vehicle: TBV, u16 version 1, u8 class, u16 track, u8 axles, then per axle u16 weight and u16 distance"
-pub record AllowedVehicleFile (bytes : List ℕ) : Type 0 where
-  pub mark : take 3 bytes ≡ 84 ∷ 66 ∷ 86 ∷ []
-  pub version : versionOf bytes ≡ 1
-  pub size : length bytes ≡ VEHICLE-HEADER + AXLE * axlesOf bytes
-  pub vehicle : AllowedVehicle (vehicleOf bytes)

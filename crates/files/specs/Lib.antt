@@ -3,8 +3,6 @@ pub mod Reading
 pub mod Header
 pub mod Sequence
 pub mod SurveyFile
-pub mod VehicleFile
 pub mod Allowed
 pub mod OneOrder
 pub mod Refused
-pub mod YardFile

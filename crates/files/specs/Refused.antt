@@ -8,14 +8,13 @@ use mathlib.Core.List.{List, [], _∷_}
 use mathlib.Core.Logic.{_⊎_}
 use lib.ListN.{length, take}
 use Rattle.member.specs.declared.record.Member.{Member}
-use Rattle.member.specs.Fields.{KIND, SPECIES, SPAN, CODE, MU-A, MU-B, FIELDS, LAST-KIND, MOST-MEMBERS, MOST-AXLES, field}
-use Rattle.member.specs.Format.{Range, _‥_, In, used, rangeOf, suits, classRange, trackRange, AllowedMember}
+use Rattle.member.specs.Fields.{KIND, SPECIES, SPAN, CODE, MU-A, MU-B, FIELDS, LAST-KIND, MOST-MEMBERS, field}
+use Rattle.member.specs.Format.{Range, _‥_, In, used, rangeOf, suits, AllowedMember}
 use Rattle.files.specs.declared.Refusal.{Refusal}
 use Rattle.files.specs.Words.{byteAt}
 use Rattle.files.specs.Header.{versionOf}
 use Rattle.files.specs.Sequence.{BeforePredecessor}
 use Rattle.files.specs.SurveyFile.{SURVEY-HEADER, RECORD, SURVEY-VERSIONS, SEQUENCE-FROM, countOf, recordAt}
-use Rattle.files.specs.VehicleFile.{VEHICLE-HEADER, AXLE, VEHICLE-VERSIONS, AXLE-FIELDS, classOf, trackOf, axlesOf, axleField, axleRange}
 
 -- the letters TB and a third one, and one of these versions
 abbrev pub Marked : List ℕ → (letter : ℕ) (versions : Range) → Type 0
@@ -105,33 +104,3 @@ pub record SurveyRefusal (bytes : List ℕ) (r : Refusal) : Type 0 where
   pub header-fault : r .place ≡ 0 → HeaderFault 82 SURVEY-VERSIONS SURVEY-HEADER MOST-MEMBERS RECORD bytes (r .number)
   pub record-fault : 0 < r .place → r .number ≤ 8 → FirstRecord bytes (r .number) (r .place - 1)
   pub sequence-fault : r .number ≡ 16 → FirstOutOfSequence bytes (r .place - 1)
-
--- a vehicle's header, class and track with no fault
-pub record Fronted (bytes : List ℕ) : Type 0 where
-  pub head : Headed 86 VEHICLE-VERSIONS VEHICLE-HEADER MOST-AXLES AXLE bytes
-  pub class : In classRange (classOf bytes)
-  pub track : In trackRange (trackOf bytes)
-
--- "0 for class or track, which come first"
-pub data FrontFault (bytes : List ℕ) : ℕ → Type 0 where
-  wrong-header : {n : ℕ} → HeaderFault 86 VEHICLE-VERSIONS VEHICLE-HEADER MOST-AXLES AXLE bytes n → FrontFault bytes n
-  -- "7 .. class or track outside its range"
-  wrong-class-or-track : Headed 86 VEHICLE-VERSIONS VEHICLE-HEADER MOST-AXLES AXLE bytes →
-      (¬ (In classRange (classOf bytes))) ⊎ (¬ (In trackRange (trackOf bytes))) →
-      FrontFault bytes 7
-
--- the front is good, the axle of index i is the first with a number outside its range, "or a first axle's distance other than 0"
-pub record FirstAxle (bytes : List ℕ) (i : ℕ) : Type 0 where
-  pub fronted : Fronted bytes
-  pub within : i < axlesOf bytes
-  pub fault : (f : ℕ) × (f < AXLE-FIELDS) × (¬ (In (axleRange i f) (axleField bytes i f)))
-  pub before : (k f : ℕ) → k < i → f < AXLE-FIELDS → In (axleRange k f) (axleField bytes k f)
-
--- "for a vehicle the place is the axle, 0 for class or track, which come first"
-pub record VehicleRefusal (bytes : List ℕ) (r : Refusal) : Type 0 where
-  pub number : (In (1 ‥ 3) (r .number)) ⊎ (r .number ≡ 7)
-  pub header : r .number ≤ 3 → r .place ≡ 0
-  pub place : r .place ≤ axlesOf bytes
-  -- what is named has the fault, and is the first that has any
-  pub front-fault : r .place ≡ 0 → FrontFault bytes (r .number)
-  pub axle-fault : 0 < r .place → (r .number ≡ 7) × FirstAxle bytes (r .place - 1)

@@ -1,5 +1,5 @@
 // The faults of a member's record.
-use crate::ranges::inside;
+use crate::limits::inside;
 use crate::ranges::is_used;
 use crate::ranges::limits_of;
 use crate::ranges::suits_kind;

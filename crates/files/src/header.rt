@@ -1,6 +1,6 @@
 // The head of a file: mark, version, count of records and length.
-use crate::ranges::Limits;
-use crate::ranges::inside;
+use crate::limits::Limits;
+use crate::limits::inside;
 use crate::words::wide;
 use crate::words::wider;
 use crate::words::word_at;

@@ -1,16 +1,14 @@
-// The survey file and the vehicle file: bytes of any length become a survey or a vehicle, or the first fault with its
-// number and place.
+// The numbers and the head of a file, and the survey file: bytes of any length become a survey, or the first fault with its number and
+// place.
 mod fault;
-mod header;
+pub mod header;
+pub mod limits;
 mod ranges;
 mod sequence;
 pub mod survey;
-pub mod vehicle;
-mod words;
-pub mod yard;
+pub mod words;
 
 use member::record::Survey;
-use member::record::Vehicle;
 
 // A refusal: the documents' number, and the place of the record that has the fault.
 pub struct Refusal {
@@ -27,10 +25,4 @@ pub enum Reading {
 pub struct SurveyRead {
     pub answer: Reading,
     pub survey: Survey,
-}
-
-// The vehicle is blank where the file is refused.
-pub struct VehicleRead {
-    pub answer: Reading,
-    pub vehicle: Vehicle,
 }

@@ -1,4 +1,5 @@
-// The tables of documents 01 and 02: which section suits a kind, which fields a record uses, and the ranges of those and of an axle's.
+// The tables of documents 01 and 02: which section suits a kind, which fields a record uses, and the ranges of those.
+use crate::limits::Limits;
 use crate::words::wider;
 use member::record::CLOSE_STRINGER;
 use member::record::DISTANCE;
@@ -16,8 +17,6 @@ ghost use mathlib.Core.Path.{_≡_};
 ghost use Prim.Native.Nat.{_<_};
 ghost use Rattle.member.specs.Fields.{FIELDS};
 ghost use Rattle.member.specs.Format.{_‥_, holds, unusedByKind, unusedByCode, used, distanceRange, forKind7, sectionRange, rangeOf, suits};
-ghost use Rattle.files.specs.Reading.{isIn};
-ghost use Rattle.files.specs.VehicleFile.{axleRange};
 
 // The ranges in the order of the record, but for what kind 7 has of its own; 0 for x, which goes by kind and span, and for s1 to s6,
 // which go by code.
@@ -110,27 +109,6 @@ const SECTION_HIGH: [u32; 30] = [
 ];
 
 const LAST_CODE: u16 = 5;
-
-// The field of an axle that holds its weight; the other holds its distance.
-pub const WEIGHT: usize = 0;
-
-const MOST_WEIGHT: u32 = 60000;
-
-const MOST_DISTANCE: u32 = 2000;
-
-pub struct Limits {
-    pub low: u32,
-    pub high: u32,
-}
-
-// A number lies between two, both included.
-pub fn inside(low: u32, high: u32, n: u32) -> bool
-    ensures { λ r. ⌜ r ≡ isIn (low ‥ high) n ⌝ }
-{
-    let above = low <= n;
-    let below = n <= high;
-    above & below
-}
 
 pub fn suits_kind(kind: u16, code: u16) -> bool
     ensures { λ r. ⌜ r ≡ suits kind code ⌝ }
@@ -273,23 +251,4 @@ fn distance_limits(kind: u16, span: u16) -> Limits
     }
     let high = wider(span - 1);
     Limits { low: 1, high }
-}
-
-// "weight 1..60000 and .. distance from the axle in front, 0 for the first, 1..2000 after"
-pub fn axle_limits(axle: usize, field: usize) -> Limits
-    ensures { λ r. ⌜ (r .low ≡ axleRange axle field .low) × (r .high ≡ axleRange axle field .high) ⌝ }
-{
-    if field == WEIGHT {
-        return Limits {
-            low: 1,
-            high: MOST_WEIGHT,
-        };
-    }
-    if axle == 0 {
-        return Limits { low: 0, high: 0 };
-    }
-    Limits {
-        low: 1,
-        high: MOST_DISTANCE,
-    }
 }

@@ -8,7 +8,7 @@ use crate::fault::is_ordered;
 use crate::fault::is_within;
 use crate::fault::is_zeroed;
 use crate::header::header_fault;
-use crate::ranges::Limits;
+use crate::limits::Limits;
 use crate::sequence::sequence_answer;
 use crate::words::wide;
 use crate::words::words;

@@ -4,9 +4,9 @@ ghost use mathlib.Core.Path.{_≡_};
 ghost use mathlib.Core.List.{_++_};
 ghost use Prim.Native.Nat.{_≤_, _<_};
 ghost use lib.ListN.{length, take, drop, getD};
-ghost use Rattle.files.specs.YardFile.{MOST-VEHICLES};
-use files::yard::MOST_VEHICLES;
+ghost use Rattle.vehicles.specs.YardFile.{MOST-VEHICLES};
 use rating::judging::Judgement;
+use vehicles::yard::MOST_VEHICLES;
 
 // The answer at an index, which is below the length: the default of `getD`, r itself, is never taken.
 fn answer_at(answers: [Judgement; MOST_VEHICLES], i: usize) -> Judgement

@@ -5,11 +5,12 @@ use Prim.Native.Nat.{ℕ}
 use mathlib.Core.Path.{_≡_, refl, ap, _∙_}
 use mathlib.Core.List.{List, [], _∷_}
 use Rattle.files.specs.SurveyFile.{readSurvey}
-use Rattle.files.specs.VehicleFile.{readVehicle}
-use Rattle.files.specs.Allowed.{AllowedSurveyFile, AllowedVehicleFile}
+use Rattle.vehicles.specs.VehicleFile.{readVehicle}
+use Rattle.files.specs.Allowed.{AllowedSurveyFile}
+use Rattle.vehicles.specs.Allowed.{AllowedVehicleFile}
 use Rattle.files.proofs.Faults.{reading-case}
 use Rattle.files.proofs.Surveys as surveys
-use Rattle.files.proofs.Vehicles as vehicles
+use Rattle.vehicles.proofs.Vehicles as vehicles
 use Rattle.session.specs.Answers.{Outcome, Values}
 use Rattle.session.specs.Calls.{Valid, newSession, loadSurvey, loadVehicle, storedSurvey, storedVehicle, rate, judge}
 use Rattle.session.specs.History.{Call, LoadSurvey, LoadVehicle, Rate, Judge, JudgeYard, JudgeBetween, next, after, TakesSurvey, TakesVehicle, NoneTakes, LastTakes, here, further, TakenLast, Holds}

@@ -5,12 +5,12 @@ use mathlib.Core.Path.{_≡_, refl, sym, ap, _∙_}
 use mathlib.Core.Bool.{Bool, true, false}
 use mathlib.Core.List.{List, []}
 use Rattle.files.specs.SurveyFile.{readSurvey, surveyOf}
-use Rattle.files.specs.VehicleFile.{readVehicle, vehicleOf}
+use Rattle.vehicles.specs.VehicleFile.{readVehicle, vehicleOf}
 use Rattle.files.specs.declared.Reading.the-variants.{Taken, Refused}
 use Rattle.files.specs.declared.Refusal.{Refusal}
 use Rattle.files.proofs.Faults.{reading-case}
 use Rattle.files.proofs.Surveys as surveys
-use Rattle.files.proofs.Vehicles as vehicles
+use Rattle.vehicles.proofs.Vehicles as vehicles
 use Rattle.session.specs.Answers.{Answer, Values, WithMargin, RefusedAt, refusedBy}
 use Rattle.session.specs.Calls.{loadSurvey, loadVehicle, storedSurvey, storedVehicle}
 use Rattle.session.specs.declared.Session.{Session}

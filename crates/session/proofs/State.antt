@@ -14,13 +14,13 @@ use borrow.Author.Tests.{ne-eqb, le-leb, leb-true}
 use Rattle.member.specs.Format.{In, _‥_}
 use Rattle.files.specs.Reading.{_unless_, isIn}
 use Rattle.files.specs.SurveyFile.{readSurvey}
-use Rattle.files.specs.VehicleFile.{readVehicle}
+use Rattle.vehicles.specs.VehicleFile.{readVehicle}
 use Rattle.files.specs.declared.Reading.the-variants.{Taken, Refused}
 use Rattle.files.specs.declared.Refusal.{Refusal}
 use Rattle.files.specs.declared.SurveyRead.{SurveyRead}
-use Rattle.files.specs.declared.VehicleRead.{VehicleRead}
+use Rattle.vehicles.specs.declared.VehicleRead.{VehicleRead}
 use Rattle.files.proofs.Tests.{not-none, none, passed, in-range, range-in}
-use Rattle.files.proofs.Vehicles.{taken-vehicle-allowed}
+use Rattle.vehicles.proofs.Vehicles.{taken-vehicle-allowed}
 use Rattle.between.proofs.Pairs.{taken-survey-allowed}
 use Rattle.session.specs.Answers.{loaded, judged, judgeAnswer, refusedBy}
 use Rattle.session.specs.Calls.{Valid, newSession, stateFault, rateFault, judgeFault, loadSurvey, loadVehicle, rate, judge, judgeList, loadFiles, thenJudge}

@@ -12,16 +12,16 @@ use borrow.Author.Tests.{ne-eqb, le-leb, lt-leb}
 use Rattle.member.specs.Format.{_‥_}
 use Rattle.member.specs.Fields.{MOST-MEMBERS}
 use Rattle.rating.specs.Judgement.{judgementOf}
-use Rattle.files.specs.Allowed.{AllowedVehicleFile}
+use Rattle.vehicles.specs.Allowed.{AllowedVehicleFile}
 use Rattle.files.specs.Reading.{firstOf, isIn}
-use Rattle.files.specs.Refused.{VehicleRefusal}
-use Rattle.files.specs.VehicleFile.{readVehicle, vehicleOf}
-use Rattle.files.specs.YardFile.{MOST-VEHICLES, AllowedYard, vehiclesOf, vehicleFiles, filesIn, leftAfter, leftOver, joined}
+use Rattle.vehicles.specs.Refused.{VehicleRefusal}
+use Rattle.vehicles.specs.VehicleFile.{readVehicle, vehicleOf}
+use Rattle.vehicles.specs.YardFile.{MOST-VEHICLES, AllowedYard, vehiclesOf, vehicleFiles, filesIn, leftAfter, leftOver, joined}
 use Rattle.files.specs.declared.Refusal.{Refusal}
 use Rattle.files.proofs.Tests.{in-range, range-in, refutes}
 use Rattle.files.proofs.Faults.{reading-case}
-use Rattle.files.proofs.Vehicles as vehicles
-use Rattle.files.proofs.Yards.{AllowedTo, length-files, files-joined, joined-files, joined-left}
+use Rattle.vehicles.proofs.Vehicles as vehicles
+use Rattle.vehicles.proofs.Yards.{AllowedTo, length-files, files-joined, joined-files, joined-left}
 use Rattle.session.specs.Answers.{Answer, Outcome, Values, RefusedAt, refusedBy, valuesOf, judgementAnswer}
 use Rattle.session.specs.Calls.{Valid, members, loadVehicle, judge, thenJudge, unlessRefused}
 use Rattle.session.specs.Yard.{Entry, alone, vehicleAnswers, passing, firstRefusal, frontTests, yardAnswered, judgeYard, yardList}

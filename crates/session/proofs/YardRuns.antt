@@ -7,10 +7,10 @@ use native.Mathlib.Numerals.{add-one}
 use native.Mathlib.Omega.{arith}
 use lib.ListN.{length, take, drop, set, length-set, length-drop}
 use lib.Seq.{take-all, take-suc-set, drop-drop}
-use Rattle.files.specs.YardFile.{MOST-VEHICLES, ownLength, filesIn, leftAfter}
+use Rattle.vehicles.specs.YardFile.{MOST-VEHICLES, ownLength, filesIn, leftAfter}
 use Rattle.files.specs.declared.Reading.the-variants.{Taken, Refused}
 use Rattle.files.specs.declared.Refusal.{Refusal}
-use Rattle.files.proofs.Yards.{take-most, drop-most, one-more-file, left-after-one}
+use Rattle.vehicles.proofs.Yards.{take-most, drop-most, one-more-file, left-after-one}
 use Rattle.rating.specs.declared.judging.Judgement.{Judgement}
 use Rattle.rating.specs.declared.judging.Verdict.{Verdict}
 use Rattle.rating.specs.declared.judging.Verdict.the-variants.{Pass, Refuse}

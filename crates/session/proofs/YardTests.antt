@@ -11,7 +11,7 @@ use borrow.Author.Tests.{eq-eqb, ne-eqb, eqb-true, leb-true}
 use Rattle.section.specs.Choose.{choose}
 use Rattle.member.specs.Format.{In, _‥_}
 use Rattle.files.specs.Reading.{_unless_, firstOf, isIn}
-use Rattle.files.specs.YardFile.{MOST-VEHICLES, vehiclesOf, leftOver}
+use Rattle.vehicles.specs.YardFile.{MOST-VEHICLES, vehiclesOf, leftOver}
 use Rattle.files.specs.declared.Reading.the-variants.{Taken}
 use Rattle.files.specs.declared.Refusal.{Refusal}
 use Rattle.files.proofs.Tests.{not-none, none, passed, in-range}

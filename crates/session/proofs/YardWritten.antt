@@ -5,7 +5,7 @@ use Prim.Native.Nat.{ℕ, zero, suc}
 use mathlib.Core.Path.{_≡_, refl, sym, ap, _∙_}
 use mathlib.Core.List.{List, [], _∷_, _++_, map, map-append}
 use lib.ListN.{length, take, drop, length-map}
-use Rattle.files.specs.YardFile.{vehiclesOf}
+use Rattle.vehicles.specs.YardFile.{vehiclesOf}
 use Rattle.rating.specs.declared.judging.Judgement.{Judgement}
 use Rattle.session.specs.Answers.{Answer, Values, WithMargin, RefusedAt, yardJudged, judgementAnswer}
 use Rattle.session.specs.Calls.{Valid, unlessRefused}

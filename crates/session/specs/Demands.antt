@@ -13,10 +13,12 @@ use Rattle.member.specs.PermittedLoad.{formulaOf}
 use Rattle.rating.specs.Surveyed.{memberAt}
 use Rattle.member.specs.declared.record.Member.{Member}
 use Rattle.member.specs.declared.record.Vehicle.{Vehicle}
-use Rattle.files.specs.Allowed.{AllowedSurveyFile, AllowedVehicleFile}
-use Rattle.files.specs.Refused.{SurveyRefusal, VehicleRefusal}
+use Rattle.files.specs.Allowed.{AllowedSurveyFile}
+use Rattle.vehicles.specs.Allowed.{AllowedVehicleFile}
+use Rattle.files.specs.Refused.{SurveyRefusal}
+use Rattle.vehicles.specs.Refused.{VehicleRefusal}
 use Rattle.files.specs.SurveyFile.{recordsOf, surveyOf}
-use Rattle.files.specs.VehicleFile.{vehicleOf}
+use Rattle.vehicles.specs.VehicleFile.{vehicleOf}
 use Rattle.files.specs.declared.Refusal.{Refusal}
 use Rattle.between.specs.declared.Between.{Between}
 use Rattle.session.specs.Answers.{Values, RefusedAt, refusedBy, judgementAnswer}

@@ -23,7 +23,7 @@ use Rattle.rating.specs.declared.judging.Verdict.the-variants.{Pass, Refuse}
 use Rattle.member.specs.declared.record.Member.{Member}
 use Rattle.member.specs.declared.record.Vehicle.{Vehicle}
 use Rattle.files.specs.SurveyFile.{countOf, recordAt, recordsOf}
-use Rattle.files.specs.VehicleFile.{vehicleOf}
+use Rattle.vehicles.specs.VehicleFile.{vehicleOf}
 use Rattle.session.specs.Answers.{Answer, WithMargin, RefusedAt, ratingAnswer, judgementAnswer}
 use Rattle.session.specs.Calls.{members, rate, judge, judgeList}
 use Rattle.session.specs.declared.Session.{Session}

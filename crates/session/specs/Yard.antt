@@ -9,7 +9,7 @@ use Rattle.member.specs.Format.{_‥_}
 use Rattle.rating.specs.declared.judging.Judgement.{Judgement}
 use Rattle.rating.specs.declared.judging.Verdict.the-variants.{Pass}
 use Rattle.files.specs.Reading.{_unless_, isIn}
-use Rattle.files.specs.YardFile.{MOST-VEHICLES, vehiclesOf, vehicleFiles, leftOver}
+use Rattle.vehicles.specs.YardFile.{MOST-VEHICLES, vehiclesOf, vehicleFiles, leftOver}
 use Rattle.session.specs.Answers.{Answer, Values, Outcome, valuesOf, verdictNumber, judgementAnswer}
 use Rattle.session.specs.Calls.{loadVehicle, thenJudge, unlessFault, unlessRefused}
 use Rattle.session.specs.declared.Session.{Session}

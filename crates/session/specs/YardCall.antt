@@ -7,10 +7,10 @@ use mathlib.Core.Logic.{_⊎_, _↔_}
 use lib.ListN.{length, getD, take}
 use Rattle.member.specs.Format.{_‥_, In}
 use Rattle.rating.specs.Judgement.{judgementOf}
-use Rattle.files.specs.Allowed.{AllowedVehicleFile}
-use Rattle.files.specs.Refused.{VehicleRefusal}
-use Rattle.files.specs.VehicleFile.{vehicleOf}
-use Rattle.files.specs.YardFile.{MOST-VEHICLES, AllowedYard, vehiclesOf, vehicleFiles, leftOver}
+use Rattle.vehicles.specs.Allowed.{AllowedVehicleFile}
+use Rattle.vehicles.specs.Refused.{VehicleRefusal}
+use Rattle.vehicles.specs.VehicleFile.{vehicleOf}
+use Rattle.vehicles.specs.YardFile.{MOST-VEHICLES, AllowedYard, vehiclesOf, vehicleFiles, leftOver}
 use Rattle.files.specs.declared.Refusal.{Refusal}
 use Rattle.session.specs.Answers.{Values, RefusedAt, judgementAnswer}
 use Rattle.session.specs.Calls.{members, loadVehicle, judge}

@@ -4,7 +4,7 @@ use Prim.Native.Nat.{ℕ, _+_, _≤_}
 use mathlib.Core.Path.{_≡_}
 use mathlib.Core.List.{List, [], map}
 use lib.ListN.{length, take, drop, set}
-use Rattle.files.specs.YardFile.{MOST-VEHICLES, vehiclesOf, filesIn, leftAfter}
+use Rattle.vehicles.specs.YardFile.{MOST-VEHICLES, vehiclesOf, filesIn, leftAfter}
 use Rattle.files.specs.declared.Reading.the-variants.{Taken, Refused}
 use Rattle.files.specs.declared.Refusal.{Refusal}
 use Rattle.rating.specs.declared.judging.Judgement.{Judgement}

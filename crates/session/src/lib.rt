@@ -13,8 +13,6 @@ use files::Reading;
 use files::Refusal;
 use files::survey::blank_survey;
 use files::survey::read_survey;
-use files::vehicle::blank_vehicle;
-use files::vehicle::read_vehicle;
 use member::record::MOST_MEMBERS;
 use member::record::Survey;
 use member::record::Vehicle;
@@ -22,6 +20,8 @@ use rating::judging;
 use rating::judging::Judgement;
 use rating::judging::Rating;
 use rating::judging::Verdict;
+use vehicles::file::blank_vehicle;
+use vehicles::file::read_vehicle;
 
 // A survey with count 0, or a vehicle with no axles, is not loaded.
 pub struct Session {

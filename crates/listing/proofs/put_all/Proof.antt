@@ -54,7 +54,7 @@ use denote.Triple.Entry.{onEntry}
 use denote.Triple.Spec.{Meets, tripleOf}
 use denote.Triple.Table.{entered, cited}
 use denote.Triple.Walked.{says, needs, Stays, stay-slice, stay-dropped, walkOf, goes-slice, goes-dropped, Walks, ends-at, walked, walk-meets}
-use Rattle.files.specs.YardFile.{MOST-VEHICLES}
+use Rattle.vehicles.specs.YardFile.{MOST-VEHICLES}
 use Rattle.rating.specs.declared.judging.Judgement.{Judgement}
 use Rattle.rating.proofs.judging.Judgement as T
 use Rattle.rating.proofs.judging.Judgement.Laws as T′

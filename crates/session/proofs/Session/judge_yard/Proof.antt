@@ -46,7 +46,7 @@ use denote.Triple.Entry.{onEntry}
 use denote.Triple.Spec.{Meets, tripleOf}
 use denote.Triple.Table.{entered, cited}
 use denote.Triple.Walked.{says, needs, Stays, stay-dropped, gave-slice, walkOf, goes-dropped, goes-gave-slice, Walks, ends-at, walked, walk-meets}
-use Rattle.files.specs.YardFile.{MOST-VEHICLES}
+use Rattle.vehicles.specs.YardFile.{MOST-VEHICLES}
 use Rattle.rating.specs.declared.judging.Judgement.{Judgement}
 use Rattle.rating.proofs.judging.Judgement as T
 use Rattle.rating.proofs.judging.Judgement.Laws as T′

@@ -4,7 +4,7 @@ use Prim.Native.Nat.{ℕ, _-_}
 use mathlib.Core.Path.{_≡_, sym, ap, subst, _∙_}
 use lib.ListN.{length}
 use Rattle.files.specs.Reading.{firstOf}
-use Rattle.files.specs.YardFile.{vehiclesOf, leftOver}
+use Rattle.vehicles.specs.YardFile.{vehiclesOf, leftOver}
 use Rattle.files.specs.declared.Reading.the-variants.{Taken}
 use Rattle.session.specs.Answers.{loadAnswer}
 use Rattle.session.specs.Yard.{endTests}

@@ -2,7 +2,7 @@
 -- Assumes nothing.
 use mathlib.Core.Bool.{_&&_}
 use lib.Dec.{leb}
-use Rattle.files.specs.YardFile.{MOST-VEHICLES}
+use Rattle.vehicles.specs.YardFile.{MOST-VEHICLES}
 use borrow.Author.Tests.{eq-eqb, ne-eqb, le-leb, lt-leb, not-true, not-false}
 use borrow.Author.Needs.{needs}
 use Rattle.session.proofs.yard.front_fault.Statement.{statement}

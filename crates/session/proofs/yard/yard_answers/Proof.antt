@@ -5,7 +5,7 @@ use mathlib.Core.Path.{_≡_, sym, _∙_}
 use lib.ListN.{length}
 use Rattle.member.specs.Format.{In, _‥_}
 use Rattle.files.specs.Reading.{firstOf}
-use Rattle.files.specs.YardFile.{MOST-VEHICLES, vehiclesOf}
+use Rattle.vehicles.specs.YardFile.{MOST-VEHICLES, vehiclesOf}
 use Rattle.session.specs.Yard.{frontTests}
 use Rattle.session.proofs.YardTests.{front-clear, front-refused, answered-refused}
 use Rattle.session.proofs.yard.yard_answers.Statement.{statement}

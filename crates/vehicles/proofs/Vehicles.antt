@@ -13,21 +13,22 @@ use Rattle.section.specs.declared.Cm.{Cm}
 use Rattle.section.specs.declared.Kgf.{Kgf}
 use Rattle.member.specs.declared.record.Vehicle.{Vehicle}
 use Rattle.member.specs.Format.{_‥_, In, classRange, trackRange, weightRange, laterRange, AllowedVehicle}
 use Rattle.files.specs.Reading.{_unless_, firstOf, firstFault, isIn}
 use Rattle.files.specs.Header.{headerFault}
 use Rattle.member.specs.Fields.{MOST-AXLES}
-use Rattle.files.specs.VehicleFile.{VEHICLE-HEADER, AXLE, VEHICLE-VERSIONS, AXLE-FIELDS, WEIGHT, DISTANCE, axlesOf, classOf, trackOf, axleField, weightAt, distanceAt, axleRange, vehicleHeader, fieldWithin, axleWithin, axleFault, axleFaults, vehicleAnswer, blankVehicle, vehicleOf, vehicleBy, readVehicle}
-use Rattle.files.specs.Allowed.{AllowedVehicleFile}
-use Rattle.files.specs.Refused.{Headed, Fronted, FrontFault, wrong-header, wrong-class-or-track, FirstAxle, VehicleRefusal}
+use Rattle.vehicles.specs.VehicleFile.{VEHICLE-HEADER, AXLE, VEHICLE-VERSIONS, AXLE-FIELDS, WEIGHT, DISTANCE, axlesOf, classOf, trackOf, axleField, weightAt, distanceAt, axleRange, vehicleHeader, fieldWithin, axleWithin, axleFault, axleFaults, vehicleAnswer, blankVehicle, vehicleOf, vehicleBy, readVehicle}
+use Rattle.vehicles.specs.Allowed.{AllowedVehicleFile}
+use Rattle.files.specs.Refused.{Headed}
+use Rattle.vehicles.specs.Refused.{Fronted, FrontFault, wrong-header, wrong-class-or-track, FirstAxle, VehicleRefusal}
 use Rattle.files.specs.declared.Refusal.{Refusal}
 use Rattle.files.specs.declared.Reading.{Reading}
 use Rattle.files.specs.declared.Reading.the-variants.{Taken, Refused}
-use Rattle.files.specs.declared.VehicleRead.{VehicleRead}
+use Rattle.vehicles.specs.declared.VehicleRead.{VehicleRead}
 use Rattle.section.proofs.Table.{all-at}
 use Rattle.files.proofs.Tests.{in-range, range-in, refuted, refutes, all-of, all-failing, all-fails, passed}
 use Rattle.files.proofs.Each.{length-each, getD-each, getD-padded}
 use Rattle.files.proofs.Faults.{refusal, head-first, head-clear, fault-at, taken-none, none-taken, FaultAt, refused-at}
 use Rattle.files.proofs.Headers.{headed, header-clear, header-named, header-is, header-number}
 
 pub front-clear : (bytes : List ℕ) → Fronted bytes → vehicleHeader bytes ≡ 0
 unfolding vehicleHeader

@@ -1,8 +1,8 @@
 -- `field_within` meets its contract: the range and the number are the callees'.
 use borrow.Author.Needs.{needs}
-use Rattle.files.specs.VehicleFile.{fieldWithin}
-use Rattle.files.proofs.vehicle.field_within.Statement.{statement}
-use Rattle.files.proofs.vehicle.field_within.Tie as tie
+use Rattle.vehicles.specs.VehicleFile.{fieldWithin}
+use Rattle.vehicles.proofs.file.field_within.Statement.{statement}
+use Rattle.vehicles.proofs.file.field_within.Tie as tie
 
 axle-limits-requires : tie.Need-axle-limits-requires
 axle-limits-requires c κs = search needs

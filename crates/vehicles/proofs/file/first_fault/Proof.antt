@@ -5,15 +5,15 @@ use mathlib.Core.Path.{_≡_, refl, sym, ap, _∙_}
 use mathlib.Core.Bool.{Bool, true}
 use native.Mathlib.Numerals.{add-one}
 use native.Mathlib.Omega.{arith}
 use Rattle.files.specs.Words.{each}
 use Rattle.section.specs.Choose.{all}
 use Rattle.files.specs.Reading.{firstFault, _unless_}
-use Rattle.files.specs.VehicleFile.{AXLE-FIELDS, fieldWithin, axleWithin, axleFault}
+use Rattle.vehicles.specs.VehicleFile.{AXLE-FIELDS, fieldWithin, axleWithin, axleFault}
 use Rattle.files.specs.declared.Reading.the-variants.{Taken}
 use Rattle.files.proofs.Tests.{fails, holds, all-fails}
 use Rattle.files.proofs.Faults.{clear-more, fault-at}
-use Rattle.files.proofs.vehicle.first_fault.Statement.{statement}
-use Rattle.files.proofs.vehicle.first_fault.Tie as tie
+use Rattle.vehicles.proofs.file.first_fault.Statement.{statement}
+use Rattle.vehicles.proofs.file.first_fault.Tie as tie
 
 abbrev Inv-loop : tie.InvT-loop
 Inv-loop bytes axles answer₀ i place f₀ answer f = (f ≤ AXLE-FIELDS) × (answer ≡ Taken) × (all (fieldWithin bytes i) f ≡ true)

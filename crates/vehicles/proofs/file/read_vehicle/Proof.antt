@@ -4,11 +4,11 @@ use mathlib.Core.Path.{sym, _∙_}
 use native.Mathlib.Omega.{arith}
 use borrow.Author.Needs.{needs}
 use denote.Ref.{now}
-use Rattle.files.specs.VehicleFile.{axlesOf, axleFaults, vehicleAnswer}
+use Rattle.vehicles.specs.VehicleFile.{axlesOf, axleFaults, vehicleAnswer}
 use Rattle.files.proofs.Faults.{head-first, head-clear}
-use Rattle.files.proofs.Vehicles.{fronted, read-as}
-use Rattle.files.proofs.vehicle.read_vehicle.Statement.{statement}
-use Rattle.files.proofs.vehicle.read_vehicle.Tie as tie
+use Rattle.vehicles.proofs.Vehicles.{fronted, read-as}
+use Rattle.vehicles.proofs.file.read_vehicle.Statement.{statement}
+use Rattle.vehicles.proofs.file.read_vehicle.Tie as tie
 
 vehicle-header-requires : tie.Need-vehicle-header-requires
 vehicle-header-requires c κs = search needs

@@ -1,9 +1,9 @@
 -- `axle_limits` meets its contract: its tests are those of the range.
 use mathlib.Core.Path.{refl}
 use borrow.Author.Tests.{eq-eqb, ne-eqb}
-use Rattle.files.specs.VehicleFile.{axleRange}
-use Rattle.files.proofs.ranges.axle_limits.Statement.{statement}
-use Rattle.files.proofs.ranges.axle_limits.Tie as tie
+use Rattle.vehicles.specs.VehicleFile.{axleRange}
+use Rattle.vehicles.proofs.axle.axle_limits.Statement.{statement}
+use Rattle.vehicles.proofs.axle.axle_limits.Tie as tie
 
 returns : tie.Need-returns
 unfolding axleRange

@@ -6,11 +6,11 @@ use native.Mathlib.Omega.{arith}
 use lib.ListN.{replicate}
 use Rattle.section.specs.Units.{centimetres, kgf}
 use Rattle.member.specs.Fields.{MOST-AXLES}
 use Rattle.files.specs.Words.{each}
-use Rattle.files.specs.VehicleFile.{axlesOf, weightAt, distanceAt}
+use Rattle.vehicles.specs.VehicleFile.{axlesOf, weightAt, distanceAt}
 use Rattle.files.proofs.Each.{store-each}
-use Rattle.files.proofs.vehicle.vehicle_of.Statement.{statement}
-use Rattle.files.proofs.vehicle.vehicle_of.Tie as tie
+use Rattle.vehicles.proofs.file.vehicle_of.Statement.{statement}
+use Rattle.vehicles.proofs.file.vehicle_of.Tie as tie
 
 abbrev Inv-loop : tie.InvT-loop
 Inv-loop bytes axles class track weights₀ distances₀ i₀ weights distances i = (i ≤ axles) × (weights ≡ each (λ k. kgf (weightAt bytes k)) i ++ replicate (MOST-AXLES - i) (kgf 0)) × (distances ≡ each (λ k. centimetres (distanceAt bytes k)) i ++ replicate (MOST-AXLES - i) (centimetres 0))

@@ -1,11 +1,11 @@
 // The vehicle files of a yard, which stand one behind the other.
-use crate::vehicle::AXLE;
-use crate::vehicle::HEADER;
-use crate::words::wide;
+use crate::file::AXLE;
+use crate::file::HEADER;
+use files::words::wide;
 ghost use mathlib.Core.Path.{_≡_};
 ghost use Prim.Native.Nat.{min};
 ghost use lib.ListN.{length};
-ghost use Rattle.files.specs.YardFile.{ownLength};
+ghost use Rattle.vehicles.specs.YardFile.{ownLength};
 
 // The most vehicles of a yard.
 pub const MOST_VEHICLES: usize = 32;

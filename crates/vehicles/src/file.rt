@@ -1,16 +1,16 @@
 // Reading a vehicle file: the header's tests with class and track, then the first fault in the order of axles.
-use crate::Reading;
-use crate::Refusal;
 use crate::VehicleRead;
-use crate::header::header_fault;
-use crate::ranges::Limits;
-use crate::ranges::WEIGHT;
-use crate::ranges::axle_limits;
-use crate::ranges::inside;
-use crate::words::wide;
-use crate::words::wider;
-use crate::words::widest;
-use crate::words::word_at;
+use crate::axle::WEIGHT;
+use crate::axle::axle_limits;
+use files::Reading;
+use files::Refusal;
+use files::header::header_fault;
+use files::limits::Limits;
+use files::limits::inside;
+use files::words::wide;
+use files::words::wider;
+use files::words::widest;
+use files::words::word_at;
 use member::record::MOST_AXLES;
 use member::record::Vehicle;
 use section::Cm;
@@ -18,9 +18,9 @@ use section::Kgf;
 ghost use mathlib.Core.Path.{_≡_};
 ghost use Prim.Native.Nat.{_+_, _*_, _≤_, _<_};
 ghost use lib.ListN.{length};
 ghost use Rattle.files.specs.Reading.{firstFault};
 ghost use Rattle.member.specs.Fields.{MOST-AXLES};
-ghost use Rattle.files.specs.VehicleFile.{VEHICLE-HEADER, AXLE, AXLE-FIELDS, axlesOf, axleField, fieldWithin, axleFaults, vehicleHeader, vehicleOf, blankVehicle, readVehicle};
+ghost use Rattle.vehicles.specs.VehicleFile.{VEHICLE-HEADER, AXLE, AXLE-FIELDS, axlesOf, axleField, fieldWithin, axleFaults, vehicleHeader, vehicleOf, blankVehicle, readVehicle};
 
 // The letters, the version, class, track and count.
 pub const HEADER: usize = 9;

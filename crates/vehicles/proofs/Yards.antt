@@ -8,8 +8,8 @@ use native.Mathlib.Decide.{decLe}
 use native.Mathlib.Omega.{arith}
 use lib.ListN.{length, getD, take, drop, take-append-drop, drop-of-length-le, List·getD-append}
 use lib.Seq.{take-all, take-at, drop-at}
-use Rattle.files.specs.Allowed.{AllowedVehicleFile}
-use Rattle.files.specs.YardFile.{ownLength, filesIn, leftAfter, joined}
+use Rattle.vehicles.specs.Allowed.{AllowedVehicleFile}
+use Rattle.vehicles.specs.YardFile.{ownLength, filesIn, leftAfter, joined}
 
 -- as many as there are
 module _ {A : Type 0} (k : ℕ) (l : List A) where

@@ -5,9 +5,9 @@ use mathlib.Core.Path.{_≡_}
 use mathlib.Core.List.{List, [], _∷_, _++_}
 use lib.ListN.{length, getD, take, drop}
 use Rattle.member.specs.Format.{_‥_, In}
 use Rattle.files.specs.Words.{byteAt}
-use Rattle.files.specs.VehicleFile.{VEHICLE-HEADER, AXLE, axlesOf}
-use Rattle.files.specs.Allowed.{AllowedVehicleFile}
+use Rattle.vehicles.specs.VehicleFile.{VEHICLE-HEADER, AXLE, axlesOf}
+use Rattle.vehicles.specs.Allowed.{AllowedVehicleFile}
 
 -- "up to 32 vehicles"
 abbrev pub MOST-VEHICLES : ℕ

@@ -7,11 +7,11 @@ use borrow.Author.Tests.{ne-eqb, not-true, not-false}
 use denote.Ref.{now}
 use Rattle.member.specs.Fields.{MOST-AXLES}
 use Rattle.member.specs.Format.{classRange, trackRange}
 use Rattle.files.specs.Reading.{isIn}
-use Rattle.files.specs.VehicleFile.{VEHICLE-HEADER, AXLE, VEHICLE-VERSIONS, classOf, trackOf, vehicleHeader}
+use Rattle.vehicles.specs.VehicleFile.{VEHICLE-HEADER, AXLE, VEHICLE-VERSIONS, classOf, trackOf, vehicleHeader}
 use Rattle.files.proofs.Headers.{headed}
-use Rattle.files.proofs.vehicle.vehicle_header.Statement.{statement}
-use Rattle.files.proofs.vehicle.vehicle_header.Tie as tie
+use Rattle.vehicles.proofs.file.vehicle_header.Statement.{statement}
+use Rattle.vehicles.proofs.file.vehicle_header.Tie as tie
 
 cast-header-fault : tie.Need-cast-header-fault
 cast-header-fault c = search needs

@@ -1,0 +1,3 @@
+-- Cited by other crates: both.
+pub mod Vehicles
+pub mod Yards

@@ -1,0 +1,4 @@
+pub mod VehicleFile
+pub mod Allowed
+pub mod Refused
+pub mod YardFile
