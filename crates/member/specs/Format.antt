@@ -119,9 +119,9 @@ classRange = 0 ‥ 1
 abbrev pub trackRange : Range
 trackRange = 100 ‥ 300
 
--- "u16 weight 1..60000"
+-- document 02, request 9/13: "1..200000"; a file of version 1 has less, vehicles/specs/VehicleFile.antt
 abbrev pub weightRange : Range
-weightRange = 1 ‥ 60000
+weightRange = 1 ‥ 200000
 
 -- "u16 distance from the axle in front, 0 for the first, 1..2000 after"
 abbrev pub laterRange : Range

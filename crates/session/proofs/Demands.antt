@@ -35,7 +35,7 @@ use Rattle.files.specs.Refused.{SurveyRefusal}
 use Rattle.vehicles.specs.Refused.{VehicleRefusal}
 use Rattle.files.specs.Reading.{_unless_, isIn}
 use Rattle.files.specs.SurveyFile.{countOf, recordAt, recordsOf, readSurvey, surveyOf}
-use Rattle.vehicles.specs.VehicleFile.{readVehicle, vehicleOf}
+use Rattle.vehicles.specs.VehicleFile.{VEHICLE-VERSIONS, readVehicle, vehicleOf}
 use Rattle.files.specs.declared.Refusal.{Refusal}
 use Rattle.files.proofs.Tests.{first-is, rows-is, in-range, refutes}
 use Rattle.files.proofs.Faults.{reading-case}
@@ -127,9 +127,9 @@ demand1 =
           reading-case (readVehicle bytes .answer)
           (λ a. (storedVehicle s a (readVehicle bytes .vehicle) .answer ≡ Values []) ⊎ ((r : Refusal) × (storedVehicle s a (readVehicle bytes .vehicle) .answer ≡ refusedBy r) × VehicleRefusal bytes r))
           (λ e. inl refl)
-          (λ r e. inr (r, refl, vehicles.refused-named bytes r e));
+          (λ r e. inr (r, refl, vehicles.refused-named VEHICLE-VERSIONS bytes r e));
       survey-named = λ s bytes r h. survey-refused s bytes r (surveys.named-refused bytes r h);
-      vehicle-named = λ s bytes r h. vehicle-refused s bytes r (vehicles.named-refused bytes r h);
+      vehicle-named = λ s bytes r h. vehicle-refused s bytes r (vehicles.named-refused VEHICLE-VERSIONS bytes r h);
       rate-answered = λ s place. fault-answer (In (11 ‥ 13)) _ _ _ (rate-number (s .survey .count) (s .vehicle .axles) place);
       judge-answered = λ s list. fault-answer (λ n. (In (11 ‥ 12) n) ⊎ (n ≡ 14)) _ _ _ (judge-number (s .survey .count) (s .vehicle .axles) (length list));
       no-survey = λ calls h. none-refused (after newSession calls) (rw (survey-stays newSession calls h));
@@ -160,7 +160,7 @@ files-answer : (survey vehicle : List ℕ) → AllowedSurveyFile survey → Allo
 unfolding loadFiles judgeFiles thenJudge judge
 files-answer survey vehicle a b =
     let e = surveys.allowed-taken survey a in
-    let f = vehicles.allowed-taken vehicle b in
+    let f = vehicles.allowed-taken VEHICLE-VERSIONS vehicle b in
     rw (survey-load newSession survey e, vehicle-load (record { survey = surveyOf survey; vehicle = newSession .vehicle }) vehicle f, judge-ready (surveyOf survey .count) (vehicleOf vehicle .axles) 128 (omega (arith, a .count)) (omega (arith, b .vehicle .axles)) (omega (arith, a .count)))
 
 pub demand2 : Demand2
@@ -171,11 +171,11 @@ demand2 =
         λ a. ap (λ (o : Outcome). o .answer) (survey-load s bytes (surveys.allowed-taken bytes a)),
       );
       vehicle-taken = λ s bytes. (
-        λ h. vehicles.taken-allowed bytes (vehicle-read s bytes h),
-        λ a. ap (λ (o : Outcome). o .answer) (vehicle-load s bytes (vehicles.allowed-taken bytes a)),
+        λ h. vehicles.taken-allowed VEHICLE-VERSIONS bytes (vehicle-read s bytes h),
+        λ a. ap (λ (o : Outcome). o .answer) (vehicle-load s bytes (vehicles.allowed-taken VEHICLE-VERSIONS bytes a)),
       );
       survey-held = λ s bytes a. ap (λ (o : Outcome). o .session) (survey-load s bytes (surveys.allowed-taken bytes a));
-      vehicle-held = λ s bytes a. ap (λ (o : Outcome). o .session) (vehicle-load s bytes (vehicles.allowed-taken bytes a));
+      vehicle-held = λ s bytes a. ap (λ (o : Outcome). o .session) (vehicle-load s bytes (vehicles.allowed-taken VEHICLE-VERSIONS bytes a));
       answers = all-answers;
       governs = λ ms v h.
           record {
@@ -215,7 +215,7 @@ module _ {s : Session} {survey vehicle : List ℕ} (h : Holds s survey vehicle) 
   held-vehicle : AllowedVehicle (s .vehicle)
   held-vehicle =
       let e = vehicle-read newSession vehicle (h .vehicle-taken) in
-      rw (h .vehicle-held, vehicle-load newSession vehicle e, ← (vehicles.taken-vehicle vehicle e)) (vehicles.taken-vehicle-allowed vehicle e)
+      rw (h .vehicle-held, vehicle-load newSession vehicle e, ← (vehicles.taken-vehicle VEHICLE-VERSIONS vehicle e)) (vehicles.taken-vehicle-allowed VEHICLE-VERSIONS vehicle e)
 
   held-members : AllowedMembers (members s)
   held-members = members-allowed held-survey

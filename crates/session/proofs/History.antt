@@ -5,7 +5,7 @@ use Prim.Native.Nat.{ℕ}
 use mathlib.Core.Path.{_≡_, refl, ap, _∙_}
 use mathlib.Core.List.{List, [], _∷_}
 use Rattle.files.specs.SurveyFile.{readSurvey}
-use Rattle.vehicles.specs.VehicleFile.{readVehicle}
+use Rattle.vehicles.specs.VehicleFile.{VEHICLE-VERSIONS, readVehicle}
 use Rattle.files.specs.Allowed.{AllowedSurveyFile}
 use Rattle.vehicles.specs.Allowed.{AllowedVehicleFile}
 use Rattle.files.proofs.Faults.{reading-case}
@@ -86,7 +86,7 @@ module _ {survey vehicle : List ℕ} (a : AllowedSurveyFile survey) (b : Allowed
   survey-takes s = ap (λ (o : Outcome). o .answer) (survey-load s survey (surveys.allowed-taken survey a))
 
   vehicle-takes : (s : Session) → loadVehicle s vehicle .answer ≡ Values []
-  vehicle-takes s = ap (λ (o : Outcome). o .answer) (vehicle-load s vehicle (vehicles.allowed-taken vehicle b))
+  vehicle-takes s = ap (λ (o : Outcome). o .answer) (vehicle-load s vehicle (vehicles.allowed-taken VEHICLE-VERSIONS vehicle b))
 
   pub in-turn : Holds (after newSession (LoadSurvey survey ∷ LoadVehicle vehicle ∷ [])) survey vehicle
   in-turn =

@@ -5,7 +5,7 @@ use mathlib.Core.Path.{_≡_, refl, sym, ap, _∙_}
 use mathlib.Core.Bool.{Bool, true, false}
 use mathlib.Core.List.{List, []}
 use Rattle.files.specs.SurveyFile.{readSurvey, surveyOf}
-use Rattle.vehicles.specs.VehicleFile.{readVehicle, vehicleOf}
+use Rattle.vehicles.specs.VehicleFile.{VEHICLE-VERSIONS, readVehicle, vehicleOf}
 use Rattle.files.specs.declared.Reading.the-variants.{Taken, Refused}
 use Rattle.files.specs.declared.Refusal.{Refusal}
 use Rattle.files.proofs.Faults.{reading-case}
@@ -47,7 +47,7 @@ module _ (s : Session) (bytes : List ℕ) where
 
   pub vehicle-load : readVehicle bytes .answer ≡ Taken → loadVehicle s bytes ≡ record { session = record { survey = s .survey; vehicle = vehicleOf bytes }; answer = Values [] }
   unfolding loadVehicle
-  vehicle-load e = rw (e, vehicles.taken-vehicle bytes e)
+  vehicle-load e = rw (e, vehicles.taken-vehicle VEHICLE-VERSIONS bytes e)
 
   -- and one that refuses it
   pub survey-refused : (r : Refusal) → readSurvey bytes .answer ≡ Refused r → loadSurvey s bytes .answer ≡ refusedBy r

@@ -14,7 +14,7 @@ use borrow.Author.Tests.{ne-eqb, le-leb, leb-true}
 use Rattle.member.specs.Format.{In, _‥_}
 use Rattle.files.specs.Reading.{_unless_, isIn}
 use Rattle.files.specs.SurveyFile.{readSurvey}
-use Rattle.vehicles.specs.VehicleFile.{readVehicle}
+use Rattle.vehicles.specs.VehicleFile.{VEHICLE-VERSIONS, readVehicle}
 use Rattle.files.specs.declared.Reading.the-variants.{Taken, Refused}
 use Rattle.files.specs.declared.Refusal.{Refusal}
 use Rattle.files.specs.declared.SurveyRead.{SurveyRead}
@@ -66,7 +66,7 @@ pub valid-survey : (s : Session) (bytes : List ℕ) → Valid s → readSurvey b
 valid-survey s bytes h e = record { survey = λ l. taken-survey-allowed bytes e; vehicle = h .vehicle }
 
 pub valid-vehicle : (s : Session) (bytes : List ℕ) → Valid s → readVehicle bytes .answer ≡ Taken → Valid (record { survey = s .survey; vehicle = readVehicle bytes .vehicle })
-valid-vehicle s bytes h e = record { survey = h .survey; vehicle = λ l. taken-vehicle-allowed bytes e }
+valid-vehicle s bytes h e = record { survey = h .survey; vehicle = λ l. taken-vehicle-allowed VEHICLE-VERSIONS bytes e }
 
 -- a survey has at most as many members as a file can
 pub few-members : (s : Session) → Valid s → s .survey .count ≤ MOST-MEMBERS

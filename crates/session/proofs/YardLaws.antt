@@ -15,7 +15,7 @@ use Rattle.rating.specs.Judgement.{judgementOf}
 use Rattle.vehicles.specs.Allowed.{AllowedVehicleFile}
 use Rattle.files.specs.Reading.{firstOf, isIn}
 use Rattle.vehicles.specs.Refused.{VehicleRefusal}
-use Rattle.vehicles.specs.VehicleFile.{readVehicle, vehicleOf}
+use Rattle.vehicles.specs.VehicleFile.{VEHICLE-VERSIONS, readVehicle, vehicleOf}
 use Rattle.vehicles.specs.YardFile.{MOST-VEHICLES, AllowedYard, vehiclesOf, vehicleFiles, filesIn, leftAfter, leftOver, joined}
 use Rattle.files.specs.declared.Refusal.{Refusal}
 use Rattle.files.proofs.Tests.{in-range, range-in, refutes}
@@ -43,7 +43,7 @@ module _ (s : Session) (file : List ℕ) where
   with = record { survey = s .survey; vehicle = vehicleOf file }
 
   loaded : AllowedVehicleFile file → loadVehicle s file ≡ record { session = with; answer = Values [] }
-  loaded a = vehicle-load s file (vehicles.allowed-taken file a)
+  loaded a = vehicle-load s file (vehicles.allowed-taken VEHICLE-VERSIONS file a)
 
   judged : 0 < s .survey .count → AllowedVehicleFile file → (lent : List ℕ) → 2 * s .survey .count ≤ length lent →
       judge (loadVehicle s file .session) lent .answer ≡ judgementAnswer (judgementOf (members s) (vehicleOf file))
@@ -57,14 +57,14 @@ module _ (s : Session) (file : List ℕ) where
 
   alone-refused : (r : Refusal) → VehicleRefusal file r → alone s file ≡ refusedBy r
   unfolding alone
-  alone-refused r h = then-refused (loadVehicle s file) (r .number) (r .place) (vehicle-refused s file r (vehicles.named-refused file r h))
+  alone-refused r h = then-refused (loadVehicle s file) (r .number) (r .place) (vehicle-refused s file r (vehicles.named-refused VEHICLE-VERSIONS file r h))
 
   -- so it is one of the two
   alone-either : AllowedVehicleFile file ⊎ ((r : Refusal) × VehicleRefusal file r)
   alone-either =
       reading-case (readVehicle file .answer) (λ a. readVehicle file .answer ≡ a → AllowedVehicleFile file ⊎ ((r : Refusal) × VehicleRefusal file r))
-      (λ e f. inl (vehicles.taken-allowed file e))
-      (λ r e f. inr (r, vehicles.refused-named file r e))
+      (λ e f. inl (vehicles.taken-allowed VEHICLE-VERSIONS file e))
+      (λ r e f. inr (r, vehicles.refused-named VEHICLE-VERSIONS file r e))
       refl
 
 module _ (s : Session) (v : Valid s) (h : 0 < s .survey .count) where

@@ -1,3 +1,4 @@
--- Cited by other crates: both.
+-- Cited by other crates: all three.
+pub mod Axles
 pub mod Vehicles
 pub mod Yards

@@ -8,6 +8,8 @@ use native.Mathlib.Decide.{decLe}
 use native.Mathlib.Omega.{arith}
 use lib.ListN.{length, getD, take, drop, take-append-drop, drop-of-length-le, List·getD-append}
 use lib.Seq.{take-all, take-at, drop-at}
+use Rattle.files.specs.Words.{byteAt}
+use Rattle.vehicles.specs.VehicleFile.{VEHICLE-HEADER}
 use Rattle.vehicles.specs.Allowed.{AllowedVehicleFile}
 use Rattle.vehicles.specs.YardFile.{ownLength, filesIn, leftAfter, joined}
 
@@ -50,7 +52,9 @@ files-joined (suc n) bytes =
 
 -- an allowed file is as long as its own counts say, whatever follows it
 own-length : (file rest : List ℕ) → AllowedVehicleFile file → length file ≡ ownLength (file ++ rest)
-own-length file rest a = rw (List·getD-append file rest 0 8 (omega (arith, a .size))) (a .size)
+own-length file rest a =
+    let same : (i : ℕ) → i < VEHICLE-HEADER → byteAt (file ++ rest) i ≡ byteAt file i = λ i l. List·getD-append file rest 0 i (omega (arith, a .size)) in
+    rw (same 3 (omega arith), same 4 (omega arith), same 8 (omega arith)) (a .size)
 
 -- the first n files are allowed
 abbrev pub AllowedTo : List (List ℕ) → (n : ℕ) → Type 0

@@ -1,7 +1,7 @@
 -- Reading a vehicle file, with the tests in document 01's order. 'Files': "Vehicle: TBV, u16 version 1, u8 class, u16 track
 -- 100..300, u8 axles 1..16, then per axle u16 weight 1..60000 and u16 distance from the axle in front, 0 for the first,
--- 1..2000 after."
-use Prim.Native.Nat.{ℕ, _+_, _-_, _*_}
+-- 1..2000 after." Document 02, request 9/13: "Vehicle version 2 stores a weight in four bytes, 1..200000. Both versions are read."
+use Prim.Native.Nat.{ℕ, zero, suc, _+_, _-_, _*_}
 use mathlib.Core.List.{List, [], _∷_, _++_}
 use mathlib.Core.Bool.{Bool, _&&_}
 use lib.ListN.{replicate}
@@ -13,7 +13,7 @@ use Rattle.section.specs.Units.{centimetres, kgf}
 use Rattle.member.specs.Format.{Range, _‥_, classRange, trackRange, weightRange, laterRange}
 use Rattle.files.specs.Words.{byteAt, wordAt, each}
 use Rattle.files.specs.Reading.{_unless_, firstOf, firstFault, isIn}
-use Rattle.files.specs.Header.{headerFault}
+use Rattle.files.specs.Header.{versionOf, headerFault}
 use Rattle.files.specs.declared.Reading.{Reading}
 use Rattle.files.specs.declared.Reading.the-variants.{Taken, Refused}
 use Rattle.vehicles.specs.declared.VehicleRead.{VehicleRead}
@@ -21,10 +21,6 @@ use Rattle.vehicles.specs.declared.VehicleRead.{VehicleRead}
 -- TBV, version, class, track and axles
 abbrev pub VEHICLE-HEADER : ℕ
 VEHICLE-HEADER = 9
-
--- weight and distance
-abbrev pub AXLE : ℕ
-AXLE = 4
 
 abbrev pub classOf : List ℕ → ℕ
 classOf bytes = byteAt bytes 5
@@ -34,6 +30,29 @@ trackOf bytes = wordAt bytes 6
 
 abbrev pub axlesOf : List ℕ → ℕ
 axlesOf bytes = byteAt bytes 8
+
+-- the number in so many bytes from a place on, its low byte first
+abbrev pub numberAt : (width : ℕ) → List ℕ → (at : ℕ) → ℕ
+numberAt zero bytes at = 0
+numberAt (suc width) bytes at = byteAt bytes at + 256 * numberAt width bytes (at + 1)
+
+-- "u16 weight"; "Vehicle version 2 stores a weight in four bytes"
+unfoldable pub weightBytes : (version : ℕ) → ℕ
+weightBytes version = choose (eqb version 2) 4 2
+
+-- weight, and "u16 distance"
+abbrev pub axleSize : (version : ℕ) → ℕ
+axleSize version = weightBytes version + 2
+
+-- where the axle of index i begins, from 0
+abbrev pub axleAt : List ℕ → (i : ℕ) → ℕ
+axleAt bytes i = VEHICLE-HEADER + axleSize (versionOf bytes) * i
+
+abbrev pub weightAt : List ℕ → (i : ℕ) → ℕ
+weightAt bytes i = numberAt (weightBytes (versionOf bytes)) bytes (axleAt bytes i)
+
+abbrev pub distanceAt : List ℕ → (i : ℕ) → ℕ
+distanceAt bytes i = wordAt bytes (axleAt bytes i + weightBytes (versionOf bytes))
 
 -- the fields of an axle
 abbrev pub WEIGHT : ℕ
@@ -45,35 +64,33 @@ DISTANCE = 1
 abbrev pub AXLE-FIELDS : ℕ
 AXLE-FIELDS = 2
 
--- the number in a field of the axle of index i, from 0
-abbrev pub axleField : List ℕ → (i f : ℕ) → ℕ
-axleField bytes i f = wordAt bytes (VEHICLE-HEADER + AXLE * i + 2 * f)
+-- the number in a field of the axle
+unfoldable pub axleField : List ℕ → (i f : ℕ) → ℕ
+axleField bytes i f = choose (eqb f WEIGHT) (weightAt bytes i) (distanceAt bytes i)
 
-abbrev pub weightAt : List ℕ → ℕ → ℕ
-weightAt bytes i = axleField bytes i WEIGHT
-
-abbrev pub distanceAt : List ℕ → ℕ → ℕ
-distanceAt bytes i = axleField bytes i DISTANCE
-
--- "u16 version 1"
+-- "Both versions are read."
 abbrev pub VEHICLE-VERSIONS : Range
-VEHICLE-VERSIONS = 1 ‥ 1
+VEHICLE-VERSIONS = 1 ‥ 2
 
--- the mark is TBV; "7 .. class or track outside its range", "0 for class or track, which come first"
-unfoldable pub vehicleHeader : List ℕ → ℕ
-vehicleHeader bytes =
+-- of a file in one of these versions: the mark is TBV; "7 .. class or track outside its range", "0 for class or track, which come first"
+unfoldable pub vehicleHeader : (versions : Range) → List ℕ → ℕ
+vehicleHeader versions bytes =
     firstOf
-    (headerFault 86 VEHICLE-VERSIONS VEHICLE-HEADER MOST-AXLES AXLE bytes ∷
+    (headerFault 86 versions VEHICLE-HEADER MOST-AXLES (axleSize (versionOf bytes)) bytes ∷
     7 unless (isIn classRange (classOf bytes) && isIn trackRange (trackOf bytes)) ∷
     [])
 
--- "weight 1..60000 and u16 distance from the axle in front, 0 for the first, 1..2000 after"
-unfoldable pub axleRange : (i f : ℕ) → Range
-axleRange i f = choose (eqb f WEIGHT) weightRange (choose (eqb i 0) (0 ‥ 0) laterRange)
+-- "weight 1..60000"; of version 2 "1..200000"
+unfoldable pub weightsIn : (version : ℕ) → Range
+weightsIn version = choose (eqb version 2) weightRange (1 ‥ 60000)
+
+-- "and u16 distance from the axle in front, 0 for the first, 1..2000 after"
+unfoldable pub axleRange : (version i f : ℕ) → Range
+axleRange version i f = choose (eqb f WEIGHT) (weightsIn version) (choose (eqb i 0) (0 ‥ 0) laterRange)
 
 -- a field is in its range
 unfoldable pub fieldWithin : List ℕ → (i f : ℕ) → Bool
-fieldWithin bytes i f = isIn (axleRange i f) (axleField bytes i f)
+fieldWithin bytes i f = isIn (axleRange (versionOf bytes) i f) (axleField bytes i f)
 
 -- and so is every field of the axle
 unfoldable pub axleWithin : List ℕ → (i : ℕ) → Bool
@@ -88,8 +105,8 @@ abbrev pub axleFaults : List ℕ → ℕ → List ℕ
 axleFaults bytes n = each (axleFault bytes) n
 
 -- the faults of header, class and track have place 0, the axles' places start at 1
-unfoldable pub vehicleAnswer : List ℕ → Reading
-vehicleAnswer bytes = firstFault 0 (vehicleHeader bytes ∷ axleFaults bytes (axlesOf bytes))
+unfoldable pub vehicleAnswer : (versions : Range) → List ℕ → Reading
+vehicleAnswer versions bytes = firstFault 0 (vehicleHeader versions bytes ∷ axleFaults bytes (axlesOf bytes))
 
 abbrev pub blankVehicle : Vehicle
 blankVehicle =
@@ -118,5 +135,9 @@ abbrev pub vehicleBy : Reading → List ℕ → Vehicle
 vehicleBy Taken bytes = vehicleOf bytes
 vehicleBy (Refused r) bytes = blankVehicle
 
-unfoldable pub readVehicle : List ℕ → VehicleRead
-readVehicle bytes = record { answer = vehicleAnswer bytes; vehicle = vehicleBy (vehicleAnswer bytes) bytes }
+-- a file in one of these versions
+unfoldable pub readVehicleOf : (versions : Range) → List ℕ → VehicleRead
+readVehicleOf versions bytes = record { answer = vehicleAnswer versions bytes; vehicle = vehicleBy (vehicleAnswer versions bytes) bytes }
+
+abbrev pub readVehicle : List ℕ → VehicleRead
+readVehicle bytes = readVehicleOf VEHICLE-VERSIONS bytes

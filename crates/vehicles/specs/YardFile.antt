@@ -6,7 +6,8 @@ use mathlib.Core.List.{List, [], _∷_, _++_}
 use lib.ListN.{length, getD, take, drop}
 use Rattle.member.specs.Format.{_‥_, In}
 use Rattle.files.specs.Words.{byteAt}
-use Rattle.vehicles.specs.VehicleFile.{VEHICLE-HEADER, AXLE, axlesOf}
+use Rattle.files.specs.Header.{versionOf}
+use Rattle.vehicles.specs.VehicleFile.{VEHICLE-HEADER, axleSize, axlesOf}
 use Rattle.vehicles.specs.Allowed.{AllowedVehicleFile}
 
 -- "up to 32 vehicles"
@@ -20,7 +21,7 @@ vehiclesOf yard = byteAt yard 0
 -- "Each vehicle file is as long as its own counts say": of the bytes from its first on. Where fewer than nine are left `byteAt` is 0, so that
 -- the length is nine and all that is left is taken
 abbrev pub ownLength : List ℕ → ℕ
-ownLength bytes = VEHICLE-HEADER + AXLE * axlesOf bytes
+ownLength bytes = VEHICLE-HEADER + axleSize (versionOf bytes) * axlesOf bytes
 
 -- the files of n vehicles in a row, each "as long as its own counts say, or all that is left if fewer"
 abbrev pub filesIn : (n : ℕ) → List ℕ → List (List ℕ)

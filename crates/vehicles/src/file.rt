@@ -1,7 +1,12 @@
 // Reading a vehicle file: the header's tests with class and track, then the first fault in the order of axles.
 use crate::VehicleRead;
+use crate::axle::AXLE_FIELDS;
+use crate::axle::DISTANCE;
+use crate::axle::HEADER;
 use crate::axle::WEIGHT;
+use crate::axle::axle_field;
 use crate::axle::axle_limits;
+use crate::axle::axle_size;
 use files::Reading;
 use files::Refusal;
 use files::header::header_fault;
@@ -18,27 +23,21 @@ use section::Kgf;
 ghost use mathlib.Core.Path.{_≡_};
 ghost use Prim.Native.Nat.{_+_, _*_, _≤_, _<_};
 ghost use lib.ListN.{length};
+ghost use Rattle.files.specs.Header.{versionOf};
 ghost use Rattle.files.specs.Reading.{firstFault};
 ghost use Rattle.member.specs.Fields.{MOST-AXLES};
-ghost use Rattle.vehicles.specs.VehicleFile.{VEHICLE-HEADER, AXLE, AXLE-FIELDS, axlesOf, axleField, fieldWithin, axleFaults, vehicleHeader, vehicleOf, blankVehicle, readVehicle};
-
-// The letters, the version, class, track and count.
-pub const HEADER: usize = 9;
-
-// Weight and distance.
-pub const AXLE: usize = 4;
-
-// An axle's fields: its weight and its distance from the axle in front.
-const AXLE_FIELDS: usize = 2;
-
-const DISTANCE: usize = 1;
+ghost use Rattle.member.specs.Format.{_‥_};
+ghost use Rattle.vehicles.specs.VehicleFile.{AXLE-FIELDS, axleAt, axlesOf, fieldWithin, axleFaults, vehicleHeader, vehicleOf, blankVehicle, readVehicleOf, readVehicle};
 
 // The header's fault, then 7 for class or track; or 0.
-fn vehicle_header(bytes: &[u8]) -> u64
-    ensures { λ r. ⌜ r ≡ vehicleHeader (now (bytes .entry)) ⌝ }
+fn vehicle_header(bytes: &[u8], versions: Limits) -> u64
+    ensures { λ r. ⌜ r ≡ vehicleHeader (versions .low ‥ versions .high) (now (bytes .entry)) ⌝ }
 {
-    let versions = Limits { low: 1, high: 1 };
-    let number = header_fault(bytes, b'V', versions, HEADER, MOST_AXLES as u32, AXLE);
+    if bytes.len() < HEADER {
+        return 1;
+    }
+    let size = axle_size(word_at(bytes, 3));
+    let number = header_fault(bytes, b'V', versions, HEADER, MOST_AXLES as u32, size);
     if number != 0 {
         return number;
     }
@@ -51,26 +50,22 @@ fn vehicle_header(bytes: &[u8]) -> u64
     0
 }
 
-// The number in a field of an axle.
-fn axle_field(bytes: &[u8], axle: usize, field: usize) -> u32
-    requires { ⌜ (field < AXLE-FIELDS) × (VEHICLE-HEADER + AXLE * (axle + 1) ≤ length (now bytes)) ⌝ }
-    ensures { λ r. ⌜ r ≡ axleField (now (bytes .entry)) axle field ⌝ }
-{
-    wider(word_at(bytes, HEADER + AXLE * axle + 2 * field))
-}
-
 // The field is in its range.
-fn field_within(bytes: &[u8], axle: usize, field: usize) -> bool
-    requires { ⌜ (field < AXLE-FIELDS) × (VEHICLE-HEADER + AXLE * (axle + 1) ≤ length (now bytes)) ⌝ }
+fn field_within(bytes: &[u8], version: u16, axle: usize, field: usize) -> bool
+    requires { ⌜ (version ≡ versionOf (now bytes)) × (axle < MOST-AXLES) × (axleAt (now bytes) (axle + 1) ≤ length (now bytes)) ⌝ }
     ensures { λ r. ⌜ r ≡ fieldWithin (now (bytes .entry)) axle field ⌝ }
 {
-    let range = axle_limits(axle, field);
-    inside(range.low, range.high, axle_field(bytes, axle, field))
+    let range = axle_limits(version, axle, field);
+    inside(
+        range.low,
+        range.high,
+        axle_field(bytes, version, axle, field),
+    )
 }
 
 // The first fault in the order of axles, with its place.
-fn first_fault(bytes: &[u8], axles: usize) -> Reading
-    requires { ⌜ VEHICLE-HEADER + AXLE * axles ≤ length (now bytes) ⌝ }
+fn first_fault(bytes: &[u8], version: u16, axles: usize) -> Reading
+    requires { ⌜ (version ≡ versionOf (now bytes)) × (axles ≤ MOST-AXLES) × (axleAt (now bytes) axles ≤ length (now bytes)) ⌝ }
     ensures { λ r. ⌜ r ≡ firstFault 1 (axleFaults (now (bytes .entry)) axles) ⌝ }
 {
     let mut answer = Reading::Taken;
@@ -79,7 +74,7 @@ fn first_fault(bytes: &[u8], axles: usize) -> Reading
         let place = (i + 1) as u64;
         let mut f: usize = 0;
         while f < AXLE_FIELDS {
-            if !field_within(bytes, i, f) {
+            if !field_within(bytes, version, i, f) {
                 answer = Reading::Refused(Refusal { number: 7, place });
                 break 'axles;
             }
@@ -91,8 +86,8 @@ fn first_fault(bytes: &[u8], axles: usize) -> Reading
 }
 
 // The file's numbers, each with its unit, and axles of 0 after them.
-fn vehicle_of(bytes: &[u8], axles: usize) -> Vehicle
-    requires { ⌜ (axles ≡ axlesOf (now bytes)) × (axles ≤ MOST-AXLES) × (VEHICLE-HEADER + AXLE * axles ≤ length (now bytes)) ⌝ }
+fn vehicle_of(bytes: &[u8], version: u16, axles: usize) -> Vehicle
+    requires { ⌜ (version ≡ versionOf (now bytes)) × (axles ≡ axlesOf (now bytes)) × (axles ≤ MOST-AXLES) × (axleAt (now bytes) axles ≤ length (now bytes)) ⌝ }
     ensures { λ r. ⌜ r ≡ vehicleOf (now (bytes .entry)) ⌝ }
 {
     let class = bytes[5];
@@ -101,8 +96,8 @@ fn vehicle_of(bytes: &[u8], axles: usize) -> Vehicle
     let mut distances = [Cm(0); MOST_AXLES];
     let mut i: usize = 0;
     while i < axles {
-        let weight = Kgf(widest(axle_field(bytes, i, WEIGHT)));
-        let distance = Cm(widest(axle_field(bytes, i, DISTANCE)));
+        let weight = Kgf(widest(axle_field(bytes, version, i, WEIGHT)));
+        let distance = Cm(widest(axle_field(bytes, version, i, DISTANCE)));
         weights[i] = weight;
         distances[i] = distance;
         i += 1;
@@ -136,21 +131,30 @@ fn refused(answer: Reading) -> VehicleRead
     VehicleRead { answer, vehicle }
 }
 
-// A vehicle file of any length: the vehicle, or the first fault.
-pub fn read_vehicle(bytes: &[u8]) -> VehicleRead
-    ensures { λ r. ⌜ r ≡ readVehicle (now (bytes .entry)) ⌝ }
+// A vehicle file of any length, in one of these versions: the vehicle, or the first fault.
+pub fn read_vehicle_of(bytes: &[u8], versions: Limits) -> VehicleRead
+    ensures { λ r. ⌜ r ≡ readVehicleOf (versions .low ‥ versions .high) (now (bytes .entry)) ⌝ }
 {
-    let number = vehicle_header(bytes);
+    let number = vehicle_header(bytes, versions);
     if number != 0 {
         return refused(Reading::Refused(Refusal { number, place: 0 }));
     }
+    let version = word_at(bytes, 3);
     let axles = wide(bytes[8]) as usize;
-    let answer = first_fault(bytes, axles);
+    let answer = first_fault(bytes, version, axles);
     match answer {
         Reading::Taken => {
-            let vehicle = vehicle_of(bytes, axles);
+            let vehicle = vehicle_of(bytes, version, axles);
             VehicleRead { answer, vehicle }
         }
         Reading::Refused(_) => refused(answer),
     }
+}
+
+// In either version.
+pub fn read_vehicle(bytes: &[u8]) -> VehicleRead
+    ensures { λ r. ⌜ r ≡ readVehicle (now (bytes .entry)) ⌝ }
+{
+    let versions = Limits { low: 1, high: 2 };
+    read_vehicle_of(bytes, versions)
 }

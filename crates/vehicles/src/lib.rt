@@ -1,6 +1,6 @@
 // The vehicle file: bytes of any length become a vehicle, or the first fault with its number and place. Vehicle files that stand one behind
 // the other are a yard.
-mod axle;
+pub mod axle;
 pub mod file;
 pub mod yard;
 

@@ -17,7 +17,7 @@ returns : tie.Need-returns
 unfolding fieldWithin
 returns c =
     let l = c .before .before .axle-limits .ensures in
-    rw (l .0, l .1, c .before .axle-field .ensures) at (c .inside .ensures)
+    rw (l .0, l .1, c .before .axle-field .ensures, c .before .before .before .before .pre .0) at (c .inside .ensures)
 
 pub field-within-spec : {M : Type 1} → statement M
 field-within-spec = tie.close (tie.spec axle-limits-requires axle-field-requires inside-requires returns)

@@ -1,31 +1,33 @@
 -- `first_fault` meets its contract. The axles' invariant: none of the first i axles has a fault. The fields' invariant: the first f
 -- fields of the axle are in their ranges.
-use Prim.Native.Nat.{_-_, _≤_}
+use Prim.Native.Nat.{_-_, _≤_, _<_}
 use mathlib.Core.Path.{_≡_, refl, sym, ap, _∙_}
 use mathlib.Core.Bool.{Bool, true}
 use native.Mathlib.Numerals.{add-one}
 use native.Mathlib.Omega.{arith}
 use Rattle.files.specs.Words.{each}
 use Rattle.section.specs.Choose.{all}
+use Rattle.files.specs.Header.{versionOf}
 use Rattle.files.specs.Reading.{firstFault, _unless_}
 use Rattle.vehicles.specs.VehicleFile.{AXLE-FIELDS, fieldWithin, axleWithin, axleFault}
 use Rattle.files.specs.declared.Reading.the-variants.{Taken}
 use Rattle.files.proofs.Tests.{fails, holds, all-fails}
 use Rattle.files.proofs.Faults.{clear-more, fault-at}
+use Rattle.vehicles.proofs.Axles.{axle-within}
 use Rattle.vehicles.proofs.file.first_fault.Statement.{statement}
 use Rattle.vehicles.proofs.file.first_fault.Tie as tie
 
 abbrev Inv-loop : tie.InvT-loop
-Inv-loop bytes axles answer₀ i place f₀ answer f = (f ≤ AXLE-FIELDS) × (answer ≡ Taken) × (all (fieldWithin bytes i) f ≡ true)
+Inv-loop bytes version axles answer₀ i place f₀ answer f = (f ≤ AXLE-FIELDS) × (answer ≡ Taken) × (all (fieldWithin bytes i) f ≡ true)
 
 abbrev μ-loop : tie.MeasureT-loop
-μ-loop bytes axles answer₀ i place f₀ answer f = AXLE-FIELDS - f
+μ-loop bytes version axles answer₀ i place f₀ answer f = AXLE-FIELDS - f
 
 abbrev Inv-axles : tie.InvT-axles
-Inv-axles bytes axles answer₀ i₀ answer i = (i ≤ axles) × (answer ≡ Taken) × (firstFault 1 (each (axleFault bytes) i) ≡ Taken)
+Inv-axles bytes version axles answer₀ i₀ answer i = (i ≤ axles) × (answer ≡ Taken) × (firstFault 1 (each (axleFault bytes) i) ≡ Taken)
 
 abbrev μ-axles : tie.MeasureT-axles
-μ-axles bytes axles answer₀ i₀ answer i = axles - i
+μ-axles bytes version axles answer₀ i₀ answer i = axles - i
 
 axles-holds : tie.Need-axles-holds Inv-loop μ-loop Inv-axles μ-axles
 axles-holds c = (omega arith, refl, refl)
@@ -37,7 +39,11 @@ loop-holds : tie.Need-loop-holds Inv-loop μ-loop Inv-axles μ-axles
 loop-holds c = (omega arith, c .before .axles .inv .1, refl)
 
 field-within-requires : tie.Need-field-within-requires Inv-loop μ-loop Inv-axles μ-axles
-field-within-requires c κs = omega arith
+field-within-requires c κs =
+    let s = c .before .before .before in
+    let a = s .before .before in
+    let below : s .axles .i < a .args .axles = omega arith in
+    (a .pre .0, omega (arith, a .pre .1), omega (arith, a .pre .2, axle-within (versionOf (a .args .bytes .now)) below))
 
 add-f : tie.Need-add-f Inv-loop μ-loop Inv-axles μ-axles
 add-f c = omega arith
