@@ -13,12 +13,14 @@ use Rattle.member.specs.Format.{Range, _‥_}
 use Rattle.member.specs.Fields.{MOST-AXLES}
 use Rattle.files.specs.Words.{byteAt, Bytes}
 use Rattle.files.specs.Reading.{_unless_, firstOf, isIn}
-use Rattle.files.specs.Header.{marked, headerFault}
+use Rattle.files.specs.Header.{versionOf, marked, headerFault}
 use Rattle.files.specs.SurveyFile.{countOf}
-use Rattle.vehicles.specs.VehicleFile.{VEHICLE-HEADER, AXLE, VEHICLE-VERSIONS, axlesOf, axleFaults, blankVehicle, vehicleHeader, vehicleAnswer, readVehicle}
+use Rattle.vehicles.specs.VehicleFile.{VEHICLE-HEADER, LONGEST-AXLE, VEHICLE-VERSIONS, axleSize, axlesOf, axleFaults, blankVehicle, vehicleHeader, vehicleAnswer, readVehicleOf, readVehicle}
 use Rattle.vehicles.specs.declared.VehicleRead.{VehicleRead}
+use Rattle.section.proofs.Products.{product-cap}
 use Rattle.files.proofs.Tests.{first-is}
 use Rattle.files.proofs.Faults.{refusal, head-first}
+use Rattle.vehicles.proofs.Axles.{longest-axle}
 use Rattle.session.specs.Answers.{Outcome}
 use Rattle.session.specs.Calls.{newSession, loadSurvey, loadVehicle, loadFiles, andThen}
 use Rattle.session.specs.declared.Session.{Session}
@@ -56,28 +58,32 @@ same-fault letter versions header most v w five same =
 
 -- what a vehicle file is read as whose header has a fault
 module _ (v : List ℕ) (n : ℕ) (fault : 0 < n) where
-  faulty-header : headerFault 86 VEHICLE-VERSIONS VEHICLE-HEADER MOST-AXLES AXLE v ≡ n → vehicleHeader v ≡ n
+  faulty-header : headerFault 86 VEHICLE-VERSIONS VEHICLE-HEADER MOST-AXLES (axleSize (versionOf v)) v ≡ n → vehicleHeader VEHICLE-VERSIONS v ≡ n
   unfolding vehicleHeader
   faulty-header e = rw (e, ne-eqb n 0 (λ z. omega arith))
 
-  faulty-answer : vehicleHeader v ≡ n → vehicleAnswer v ≡ refusal n 0
+  faulty-answer : vehicleHeader VEHICLE-VERSIONS v ≡ n → vehicleAnswer VEHICLE-VERSIONS v ≡ refusal n 0
   unfolding vehicleAnswer
-  faulty-answer e = head-first 0 n (vehicleHeader v) (axleFaults v (axlesOf v)) e (λ z. omega arith)
+  faulty-answer e = head-first 0 n (vehicleHeader VEHICLE-VERSIONS v) (axleFaults v (axlesOf v)) e (λ z. omega arith)
 
-  faulty-read : vehicleAnswer v ≡ refusal n 0 → _≡_ {A = VehicleRead} (readVehicle v) (record { answer = refusal n 0; vehicle = blankVehicle })
-  unfolding readVehicle
+  faulty-read : vehicleAnswer VEHICLE-VERSIONS v ≡ refusal n 0 → _≡_ {A = VehicleRead} (readVehicle v) (record { answer = refusal n 0; vehicle = blankVehicle })
+  unfolding readVehicleOf
   faulty-read e = rw e
 
 -- a vehicle file that is longer than its count says is refused with its header's fault, at place 0
-long-vehicle : (v : List ℕ) → VEHICLE-HEADER + AXLE * axlesOf v < length v →
+long-vehicle : (v : List ℕ) → VEHICLE-HEADER + axleSize (versionOf v) * axlesOf v < length v →
     _≡_ {A = VehicleRead} (readVehicle v) (record { answer = refusal (longFault 86 VEHICLE-VERSIONS VEHICLE-HEADER MOST-AXLES v) 0; vehicle = blankVehicle })
 long-vehicle v h =
     let n = longFault 86 VEHICLE-VERSIONS VEHICLE-HEADER MOST-AXLES v in
-    let fault = some-fault 86 VEHICLE-VERSIONS VEHICLE-HEADER MOST-AXLES AXLE v in
-    faulty-read v n fault (faulty-answer v n fault (faulty-header v n fault (long-fault 86 VEHICLE-VERSIONS VEHICLE-HEADER MOST-AXLES AXLE v h)))
+    let fault = some-fault 86 VEHICLE-VERSIONS VEHICLE-HEADER MOST-AXLES (axleSize (versionOf v)) v in
+    faulty-read v n fault (faulty-answer v n fault (faulty-header v n fault (long-fault 86 VEHICLE-VERSIONS VEHICLE-HEADER MOST-AXLES (axleSize (versionOf v)) v h)))
+
+-- a count byte calls for no more than so many of the longest axles
+longer : (v : List ℕ) → axlesOf v ≤ 255 → VEHICLE-HEADER + LONGEST-AXLE * 255 < length v → VEHICLE-HEADER + axleSize (versionOf v) * axlesOf v < length v
+longer v count h = omega (arith, product-cap LONGEST-AXLE 255 (longest-axle (versionOf v)) count)
 
 -- a vehicle file and its beginning, where both are longer than any count byte calls for, are read alike
-pub same-vehicle : (v : List ℕ) (n : ℕ) → byteAt v 8 < 256 → VEHICLE-HEADER + AXLE * 255 < n → readVehicle (take n v) ≡ readVehicle v
+pub same-vehicle : (v : List ℕ) (n : ℕ) → byteAt v 8 < 256 → VEHICLE-HEADER + LONGEST-AXLE * 255 < n → readVehicle (take n v) ≡ readVehicle v
 same-vehicle v n byte enough =
     elim (decLe (length v) n) [
       | yes h ↦ rw (take-all n v h)
@@ -85,8 +91,8 @@ same-vehicle v n byte enough =
           let w = take n v in
           let size : length w ≡ n = length-take-le n v (omega arith) in
           let same : (i : ℕ) → i < VEHICLE-HEADER → byteAt w i ≡ byteAt v i = λ i l. getD-take n v i 0 (omega arith) in
-          let count : byteAt w 8 ≡ byteAt v 8 = same 8 (omega arith) in
-          long-vehicle w (omega arith) ∙ rw (same-fault 86 VEHICLE-VERSIONS VEHICLE-HEADER MOST-AXLES v w (omega arith) same) (sym (long-vehicle v (omega arith)))
+          let count : byteAt w 8 ≤ 255 = omega (arith, same 8 (omega arith)) in
+          long-vehicle w (longer w count (omega arith)) ∙ rw (same-fault 86 VEHICLE-VERSIONS VEHICLE-HEADER MOST-AXLES v w (omega arith) same) (sym (long-vehicle v (longer v (omega arith) (omega arith))))
     ]
 
 -- the end of a beginning is a beginning of the end

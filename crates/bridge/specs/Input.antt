@@ -8,7 +8,7 @@ use Rattle.session.specs.Answers.{Outcome}
 use Rattle.session.specs.Calls.{loadFiles}
 use Rattle.files.specs.Words.{Bytes}
 use Rattle.files.specs.SurveyFile.{SURVEY-HEADER, RECORD, countOf}
-use Rattle.vehicles.specs.VehicleFile.{VEHICLE-HEADER, AXLE}
+use Rattle.vehicles.specs.VehicleFile.{VEHICLE-HEADER, LONGEST-AXLE}
 
 -- an input too short to hold a count is shorter than 6 as well
 abbrev pub surveyLength : List ℕ → ℕ
@@ -35,4 +35,4 @@ LoadedFrom buffer n o = (input : List ℕ) → ReadFrom input buffer n → o ≡
 
 -- the longest survey and the longest vehicle that a count byte can call for, and one byte more
 abbrev pub ENOUGH : ℕ
-ENOUGH = SURVEY-HEADER + RECORD * 255 + (VEHICLE-HEADER + AXLE * 255) + 1
+ENOUGH = SURVEY-HEADER + RECORD * 255 + (VEHICLE-HEADER + LONGEST-AXLE * 255) + 1

@@ -13,7 +13,7 @@ use session::load_files;
 // The longest survey and the longest vehicle that a count byte can call for, and one byte more.
 pub const ENOUGH: usize = HEADER
     + RECORD * 255
-    + (vehicles::file::HEADER + vehicles::file::AXLE * 255)
+    + (vehicles::axle::HEADER + vehicles::axle::LONGEST_AXLE * 255)
     + 1;
 
 fn wide(x: u8) -> usize

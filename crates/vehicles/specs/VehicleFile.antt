@@ -44,6 +44,10 @@ weightBytes version = choose (eqb version 2) 4 2
 abbrev pub axleSize : (version : ℕ) → ℕ
 axleSize version = weightBytes version + 2
 
+-- the longest, that of version 2
+abbrev pub LONGEST-AXLE : ℕ
+LONGEST-AXLE = 6
+
 -- where the axle of index i begins, from 0
 abbrev pub axleAt : List ℕ → (i : ℕ) → ℕ
 axleAt bytes i = VEHICLE-HEADER + axleSize (versionOf bytes) * i

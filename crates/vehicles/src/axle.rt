@@ -9,10 +9,13 @@ ghost use lib.ListN.{length};
 ghost use Rattle.member.specs.Fields.{MOST-AXLES};
 ghost use Rattle.files.specs.Words.{byteAt};
 ghost use Rattle.files.specs.Header.{versionOf};
-ghost use Rattle.vehicles.specs.VehicleFile.{VEHICLE-HEADER, AXLE-FIELDS, numberAt, weightBytes, axleSize, axleAt, weightAt, distanceAt, axleField, weightsIn, axleRange};
+ghost use Rattle.vehicles.specs.VehicleFile.{VEHICLE-HEADER, LONGEST-AXLE, numberAt, weightBytes, axleSize, axleAt, weightAt, distanceAt, axleField, weightsIn, axleRange};
 
 // The letters, the version, class, track and count.
 pub const HEADER: usize = 9;
+
+// The bytes of the longest axle, that of version 2.
+pub const LONGEST_AXLE: usize = 6;
 
 // The fields of an axle: its weight, and its distance from the axle in front.
 pub const WEIGHT: usize = 0;
@@ -34,7 +37,7 @@ pub fn weight_bytes(version: u16) -> usize
 // How many bytes an axle has.
 pub fn axle_size(version: u16) -> usize
     ensures is { λ r. ⌜ r ≡ axleSize version ⌝ }
-    ensures cap { λ r. ⌜ r ≤ 6 ⌝ }
+    ensures cap { λ r. ⌜ r ≤ LONGEST-AXLE ⌝ }
 {
     weight_bytes(version) + 2
 }
