@@ -12,6 +12,7 @@ use Rattle.member.specs.declared.record.Vehicle.{Vehicle}
 use Rattle.files.specs.Allowed.{AllowedSurveyFile}
 use Rattle.files.specs.Refused.{SurveyRefusal}
 use Rattle.files.specs.SurveyFile.{countOf, recordAt, readSurvey}
+use Rattle.files.specs.Reading.{firstRefusal}
 use Rattle.files.specs.Words.{each}
 use Rattle.files.specs.declared.Reading.the-variants.{Taken, Refused}
 use Rattle.files.specs.declared.Refusal.{Refusal}
@@ -20,7 +21,7 @@ use Rattle.files.proofs.Faults.{refusal, reading-case, refused-at}
 use Rattle.files.proofs.Surveys.{taken-allowed, allowed-taken, refused-named, named-refused}
 use Rattle.files.proofs.Tests.{passed}
 use Rattle.between.specs.Order.{orderFault, orderOf}
-use Rattle.between.specs.Between.{firstRefusal, betweenTests, betweenList}
+use Rattle.between.specs.Between.{betweenTests, betweenList}
 use Rattle.between.specs.Fault.{BothAllowed, MayBeJudged, BetweenFault, no-vehicle, first-refused, second-refused, other-count, not-ordered, short-list}
 use Rattle.between.proofs.Orders.{count-differs, count-alike, test-ordered, no-fault, taken-in-order, in-order-taken, first-unordered}
 use Rattle.between.proofs.Lists.{bounds-length}

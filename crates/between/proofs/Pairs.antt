@@ -15,17 +15,17 @@ use Rattle.member.specs.Fields.{MOST-MEMBERS}
 use Rattle.member.specs.declared.record.Vehicle.{Vehicle}
 use Rattle.rating.specs.Judgement.{permittedFor, judgementOf}
 use Rattle.rating.specs.Surveyed.{AllowedSurvey, memberAt, membersOf}
-use Rattle.files.specs.Reading.{orElse}
+use Rattle.files.specs.Reading.{orElse, test, firstRefusal}
 use Rattle.files.specs.SurveyFile.{countOf, recordAt, recordsOf, surveyOf, readSurvey}
 use Rattle.files.specs.declared.Reading.{Reading}
 use Rattle.files.specs.declared.Reading.the-variants.{Taken, Refused}
 use Rattle.files.specs.declared.Refusal.{Refusal}
 use Rattle.files.proofs.Each.{each-same, length-each}
-use Rattle.files.proofs.Faults.{reading-case, refused-not, both-taken}
+use Rattle.files.proofs.Faults.{reading-case, both-taken, or-none, test-holds}
 use Rattle.files.proofs.Tests.{not-none}
 use Rattle.files.proofs.Surveys.{taken-survey, taken-record, taken-count, taken-members, refused-blank}
 use Rattle.between.specs.Order.{orderAnswer, orderOf}
-use Rattle.between.specs.Between.{test, firstRefusal, pairAnswer, betweenTests, verdictBetween, boundsWritten, betweenAnswered, betweenList}
+use Rattle.between.specs.Between.{pairAnswer, betweenTests, verdictBetween, boundsWritten, betweenAnswered, betweenList}
 use Rattle.between.specs.declared.Between.{Between}
 use Rattle.between.specs.declared.BetweenJudged.the-variants.{Verdict as Given}
 use Rattle.between.specs.declared.BetweenJudged.the-variants.{Refused as NotJudged}
@@ -51,15 +51,6 @@ module _ (bytes : List ℕ) where
   read-few =
       reading-case (readSurvey bytes .answer) (λ a. readSurvey bytes .survey .count ≤ MOST-MEMBERS) (λ e. taken-count bytes e .1)
       (λ r e. rw (refused-blank bytes r e) (omega arith))
-
--- a test, and a row of tests, that finds nothing
-or-none : (a : Reading) → orElse a Taken ≡ a
-or-none Taken = refl
-or-none (Refused r) = refl
-
-pub test-holds : (number : ℕ) (holds : Bool) → test number holds ≡ Taken → holds ≡ true
-test-holds number true e = refl
-test-holds number false e = absurd (refused-not number 0 e)
 
 module _ (first second : List ℕ) where
   module _ (e : readSurvey first .answer ≡ Taken) (f : readSurvey second .answer ≡ Taken) where

@@ -4,12 +4,11 @@ use mathlib.Core.Bool.{Bool, not}
 use mathlib.Core.List.{List, [], _∷_, _++_}
 use lib.Dec.{eqb, leb}
 use lib.ListN.{length, drop}
-use Rattle.section.specs.Choose.{choose}
 use Rattle.member.specs.declared.record.Vehicle.{Vehicle}
 use Rattle.rating.specs.Judgement.{permittedFor, judgementOf}
 use Rattle.rating.specs.declared.judging.Verdict.{Verdict}
 use Rattle.rating.specs.declared.judging.Verdict.the-variants.{Pass, Refuse}
-use Rattle.files.specs.Reading.{orElse}
+use Rattle.files.specs.Reading.{test, firstRefusal}
 use Rattle.files.specs.SurveyFile.{countOf, recordAt, recordsOf, readSurvey}
 use Rattle.files.specs.declared.Reading.{Reading}
 use Rattle.files.specs.declared.Reading.the-variants.{Taken, Refused}
@@ -19,15 +18,6 @@ use Rattle.between.specs.declared.Between.the-variants.{All, None, Undec
 use Rattle.between.specs.declared.BetweenJudged.{BetweenJudged}
 use Rattle.between.specs.declared.BetweenJudged.the-variants.{Verdict as Given}
 use Rattle.between.specs.declared.BetweenJudged.the-variants.{Refused as NotJudged}
-
--- a test at place 0
-abbrev pub test : (number : ℕ) (holds : Bool) → Reading
-test number holds = choose holds Taken (Refused (record { number = number; place = 0 }))
-
--- the first refusal of a row of tests
-abbrev pub firstRefusal : List Reading → Reading
-firstRefusal [] = Taken
-firstRefusal (a ∷ row) = orElse a (firstRefusal row)
 
 -- two files' own refusals, and their order
 abbrev pub pairTests : (first second : List ℕ) → List Reading

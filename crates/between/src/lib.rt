@@ -5,8 +5,7 @@ ghost use Prim.Native.Nat.{_<_};
 ghost use lib.ListN.{length};
 ghost use Rattle.member.specs.Format.{AllowedVehicle};
 ghost use Rattle.files.specs.SurveyFile.{readSurvey};
-ghost use Rattle.files.specs.Reading.{orElse};
-ghost use Rattle.between.specs.Between.{test, pairAnswer, betweenAnswered, betweenList};
+ghost use Rattle.between.specs.Between.{pairAnswer, betweenAnswered, betweenList};
 
 pub mod bounds;
 pub mod order;
@@ -14,6 +13,8 @@ pub mod order;
 use bounds::fill;
 use files::Reading;
 use files::Refusal;
+use files::answer::or_else;
+use files::answer::test;
 use files::survey::read_survey;
 use member::record::Survey;
 use member::record::Vehicle;
@@ -37,27 +38,6 @@ struct Pair {
     answer: Reading,
     first: Survey,
     second: Survey,
-}
-
-// The number at place 0 where the test fails.
-fn test(number: u64, holds: bool) -> Reading
-    ensures { λ r. ⌜ r ≡ test number holds ⌝ }
-{
-    if holds {
-        Reading::Taken
-    } else {
-        Reading::Refused(Refusal { number, place: 0 })
-    }
-}
-
-// The earlier answer where it is a refusal.
-fn or_else(earlier: Reading, later: Reading) -> Reading
-    ensures { λ r. ⌜ r ≡ orElse earlier later ⌝ }
-{
-    match earlier {
-        Reading::Taken => later,
-        Reading::Refused(_) => earlier,
-    }
 }
 
 // Reads both files, and compares what was read.

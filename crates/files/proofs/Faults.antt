@@ -13,7 +13,7 @@ use lib.Dec.{eqb}
 use borrow.Author.Tests.{eqb-true, eqb-false, ne-eqb}
 use Rattle.section.specs.Choose.{choose}
 use Rattle.files.specs.Words.{each}
-use Rattle.files.specs.Reading.{firstFault, orElse, numberOf, placeOf}
+use Rattle.files.specs.Reading.{firstFault, orElse, test, numberOf, placeOf}
 use Rattle.files.specs.declared.Refusal.{Refusal}
 use Rattle.files.specs.declared.Reading.{Reading}
 use Rattle.files.specs.declared.Reading.the-variants.{Taken, Refused}
@@ -39,6 +39,15 @@ both-taken (Refused r) b e = absurd (refused-not (r .number) (r .place) e)
 pub one-refused : (a b : Reading) (r : Refusal) → orElse a b ≡ Refused r → (a ≡ Refused r) ⊎ ((a ≡ Taken) × (b ≡ Refused r))
 one-refused Taken b r e = inr (refl, e)
 one-refused (Refused q) b r e = inl e
+
+-- a test, and a row of tests, that finds nothing
+pub or-none : (a : Reading) → orElse a Taken ≡ a
+or-none Taken = refl
+or-none (Refused r) = refl
+
+pub test-holds : (number : ℕ) (holds : Bool) → test number holds ≡ Taken → holds ≡ true
+test-holds number true e = refl
+test-holds number false e = absurd (refused-not number 0 e)
 
 -- a fault of the head is the answer; after a good head the rest decide
 pub head-first : (place n head : ℕ) (rest : List ℕ) → head ≡ n → (n ≡ 0 → ⊥) → firstFault place (head ∷ rest) ≡ refusal n place

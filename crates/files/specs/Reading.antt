@@ -29,6 +29,15 @@ abbrev pub orElse : (earlier later : Reading) → Reading
 orElse Taken later = later
 orElse (Refused r) later = Refused r
 
+-- a test at place 0
+abbrev pub test : (number : ℕ) (holds : Bool) → Reading
+test number holds = choose holds Taken (Refused (record { number = number; place = 0 }))
+
+-- the first refusal of a row of tests
+abbrev pub firstRefusal : List Reading → Reading
+firstRefusal [] = Taken
+firstRefusal (a ∷ row) = orElse a (firstRefusal row)
+
 -- a number lies in a range
 abbrev pub isIn : Range → ℕ → Bool
 isIn r n = leb (r .low) n && leb n (r .high)

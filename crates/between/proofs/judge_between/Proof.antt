@@ -6,7 +6,8 @@ use native.Mathlib.Omega.{arith}
 use lib.ListN.{length}
 use denote.Ref.{now}
 use Rattle.files.specs.declared.Reading.the-variants.{Taken}
-use Rattle.between.specs.Between.{firstRefusal, betweenTests}
+use Rattle.files.specs.Reading.{firstRefusal}
+use Rattle.between.specs.Between.{betweenTests}
 use Rattle.between.proofs.Pairs.{taken-survey-allowed, read-count, read-few, tests-are, Passed, all-passed, same-count, verdict-given, refusal-given, list-filled, list-kept}
 use borrow.Author.Needs.{needs}
 use Rattle.between.proofs.judge_between.Statement.{statement}

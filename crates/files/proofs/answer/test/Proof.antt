@@ -1,7 +1,7 @@
--- `between::test` meets its contract: a test that holds is no refusal.
+-- `test` meets its contract: a test that holds is no refusal.
 -- Assumes nothing.
-use Rattle.between.proofs.test.Statement.{statement}
-use Rattle.between.proofs.test.Tie as tie
+use Rattle.files.proofs.answer.test.Statement.{statement}
+use Rattle.files.proofs.answer.test.Tie as tie
 
 returns : tie.Need-returns
 returns c = rw (c .if1 .taken)
