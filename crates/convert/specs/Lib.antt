@@ -1,0 +1,2 @@
+pub mod VehicleBytes
+pub mod Convert

@@ -1,0 +1,135 @@
+// The converter: a vehicle file of one version becomes that of the other, with every number kept.
+pub mod bytes;
+
+use bytes::LONGEST;
+use bytes::put_bytes;
+use bytes::vehicle_bytes;
+use files::Reading;
+use files::Refusal;
+use files::answer::or_else;
+use files::answer::test;
+use files::limits::Limits;
+use files::words::wider;
+use files::words::widest;
+use member::record::Vehicle;
+use vehicles::VehicleRead;
+use vehicles::axle::HEADER;
+use vehicles::axle::axle_size;
+use vehicles::axle::most_weight;
+use vehicles::file::read_vehicle_of;
+ghost use mathlib.Core.Path.{_≡_};
+ghost use Prim.Native.Nat.{_≤_};
+ghost use lib.ListN.{length, take};
+ghost use Rattle.member.specs.Fields.{MOST-AXLES};
+ghost use Rattle.vehicles.specs.VehicleFile.{readVehicleOf};
+ghost use Rattle.convert.specs.VehicleBytes.{LONGEST};
+ghost use Rattle.convert.specs.Convert.{only, wantedVersion, givenVersion, heavyAnswer, converted, convertedBytes, convertedOut};
+
+// The version that is wanted; the file has the other one.
+pub enum Wanted {
+    Version1,
+    Version2,
+}
+
+// What the call gives: the number of bytes written, or a refusal.
+pub enum Converted {
+    Written(u64),
+    Refused(Refusal),
+}
+
+// What the call gives, and the bytes that it writes: none where it is refused.
+struct Work {
+    answer: Converted,
+    bytes: [u8; LONGEST],
+    length: usize,
+}
+
+fn wanted_version(wanted: Wanted) -> u16
+    ensures { λ r. ⌜ r ≡ wantedVersion wanted ⌝ }
+{
+    match wanted {
+        Wanted::Version1 => 1,
+        Wanted::Version2 => 2,
+    }
+}
+
+fn given_version(wanted: Wanted) -> u16
+    ensures { λ r. ⌜ r ≡ givenVersion wanted ⌝ }
+{
+    match wanted {
+        Wanted::Version1 => 2,
+        Wanted::Version2 => 1,
+    }
+}
+
+// A file of the version that is not wanted.
+fn read_given(file: &[u8], wanted: Wanted) -> VehicleRead
+    ensures { λ r. ⌜ r ≡ readVehicleOf (only (givenVersion wanted)) (now (file .entry)) ⌝ }
+{
+    let version = wider(given_version(wanted));
+    let versions = Limits {
+        low: version,
+        high: version,
+    };
+    read_vehicle_of(file, versions)
+}
+
+// 17 at the first axle that is heavier than this.
+fn heavy_answer(v: Vehicle, most: u64) -> Reading
+    requires { ⌜ v .axles ≤ MOST-AXLES ⌝ }
+    ensures { λ r. ⌜ r ≡ heavyAnswer most v ⌝ }
+{
+    let axles = v.axles;
+    let mut answer = Reading::Taken;
+    let mut i: usize = 0;
+    while i < axles {
+        if most < v.weights[i].0 {
+            answer = Reading::Refused(Refusal {
+                number: 17,
+                place: (i + 1) as u64,
+            });
+            break;
+        }
+        i += 1;
+    }
+    answer
+}
+
+// The bytes that are to be written, and how many. They are worked out before any is written, so that a refusal finds none.
+fn work_out(file: &[u8], wanted: Wanted, room: usize) -> Work
+    ensures is { λ r. ⌜ r .answer ≡ converted wanted (now (file .entry)) room ⌝ }
+    ensures bytes { λ r. ⌜ take (r .length) (r .bytes) ≡ convertedBytes wanted (now (file .entry)) room ⌝ }
+    ensures length { λ r. ⌜ r .length ≡ length (convertedBytes wanted (now (file .entry)) room) ⌝ }
+    ensures cap { λ r. ⌜ (r .length ≤ LONGEST) × (r .length ≤ room) ⌝ }
+{
+    let read = read_given(file, wanted);
+    let v = read.vehicle;
+    let own = read.answer;
+    let version = wanted_version(wanted);
+    let length = HEADER + axle_size(version) * v.axles;
+    let heavy = heavy_answer(v, widest(most_weight(version)));
+    let answer = or_else(own, or_else(heavy, test(14, length <= room)));
+    match answer {
+        Reading::Taken => Work {
+            answer: Converted::Written(length as u64),
+            bytes: vehicle_bytes(v, version),
+            length,
+        },
+        Reading::Refused(r) => Work {
+            answer: Converted::Refused(r),
+            bytes: [0; LONGEST],
+            length: 0,
+        },
+    }
+}
+
+// A vehicle file of any length into the output, in the version that is wanted.
+pub fn convert(file: &[u8], wanted: Wanted, out: &mut [u8]) -> Converted
+    ensures is { λ r. ⌜ r ≡ converted wanted (now (file .entry)) (length (now (out .entry))) ⌝ }
+    ensures out { λ r. ⌜ now (out .exit) ≡ convertedOut wanted (now (file .entry)) (now (out .entry)) ⌝ }
+{
+    let work = work_out(file, wanted, out.len());
+    let bytes = work.bytes;
+    put_bytes(out, bytes, work.length);
+    work.answer
+}
