@@ -1,6 +1,7 @@
 // The answers as text: a space before every field, and the document's number and place of a refusal.
 use between::Between;
 use between::BetweenJudged;
+use convert::Converted;
 use files::Reading;
 use files::Refusal;
 use libc::STDOUT_FILENO;
@@ -10,7 +11,7 @@ use session::Judged;
 use session::Rated;
 use session::yard::YardJudged;
 ghost use mathlib.Core.Path.{_≡_};
-ghost use Prim.Native.Nat.{_≤_};
+ghost use Prim.Native.Nat.{_≤_, _<_};
 ghost use lib.IntN.{pos, natAbs};
 ghost use lib.Signed.{_<ℤ_};
 
@@ -128,6 +129,46 @@ pub fn between(answer: BetweenJudged) {
         BetweenJudged::Verdict(v) => verdict_between(v),
         BetweenJudged::Refused(r) => refusal(r),
     }
+}
+
+pub fn converted(answer: Converted) {
+    match answer {
+        Converted::Written(n) => {
+            number(n);
+            text(b"\n");
+        }
+        Converted::Refused(r) => refusal(r),
+    }
+}
+
+// A digit of a number to the base 16.
+fn digit(n: u8) -> u8
+    requires { ⌜ n < 16 ⌝ }
+{
+    if n < 10 { b'0' + n } else { b'a' + (n - 10) }
+}
+
+fn byte(n: u8) {
+    let digits = [digit(n / 16), digit(n % 16)];
+    text(&digits);
+}
+
+fn each_byte(bytes: &[u8]) {
+    let mut i: usize = 0;
+    while i < bytes.len() {
+        byte(bytes[i]);
+        i += 1;
+    }
+}
+
+// A buffer's bytes, two digits each; no space behind the word where it is empty.
+pub fn bytes(buffer: &[u8]) {
+    text(b"bytes");
+    if buffer.len() != 0 {
+        text(b" ");
+    }
+    each_byte(buffer);
+    text(b"\n");
 }
 
 fn each_entry(entries: &[u64]) {

@@ -5,10 +5,14 @@
 //   Y n   judge a yard with a list: of the n bytes that follow, the first two are the list's entries, the others the yard
 //   B n   judge two surveys with a list: of the n bytes that follow, the first two are the list's entries, the next two the length of the
 //         first survey, the others the first and the second
+//   C n   convert a vehicle file into a buffer: of the n bytes that follow, the first is the version wanted, the next two the buffer's length,
+//         the others the file
 use crate::calls;
+use crate::converter;
 use crate::print;
 use crate::readings;
 use crate::yard;
+use convert::Wanted;
 use session::Session;
 ghost use Prim.Native.Nat.{_+_, _≤_, _<_};
 ghost use lib.ListN.{length};
@@ -55,7 +59,7 @@ fn end_of(step: Step, from: usize, script: &[u8]) -> usize
     let letter = step.letter;
     let number = step.number;
     match letter {
-        b'T' | b'S' | b'V' | b'Y' | b'B' => {
+        b'T' | b'S' | b'V' | b'Y' | b'B' | b'C' => {
             if number <= script.len() - from {
                 from + number
             } else {
@@ -102,6 +106,21 @@ fn run_between(session: Session, bytes: &[u8]) -> Session
     )
 }
 
+// A script that is cut before the file, or wants another version: its bytes are printed.
+fn run_convert(bytes: &[u8]) {
+    let from = 1 + NUMBER;
+    if bytes.len() < from {
+        print::line(bytes);
+        return;
+    }
+    let room = number_at(bytes, 1);
+    match bytes[0] {
+        1 => converter::run(&bytes[from..], Wanted::Version1, room),
+        2 => converter::run(&bytes[from..], Wanted::Version2, room),
+        _ => print::line(bytes),
+    }
+}
+
 fn run_step(session: Session, step: Step, bytes: &[u8]) -> Session
     requires { ⌜ Valid session ⌝ }
     ensures { λ r. ⌜ Valid r ⌝ }
@@ -116,6 +135,10 @@ fn run_step(session: Session, step: Step, bytes: &[u8]) -> Session
         b'J' => calls::judge(session, number),
         b'Y' => run_yard(session, bytes),
         b'B' => run_between(session, bytes),
+        b'C' => {
+            run_convert(bytes);
+            session
+        }
         _ => {
             print::line(bytes);
             session

@@ -1,0 +1,30 @@
+-- `run` is safe: the part of the buffer that is lent is no longer than the buffer.
+use native.Mathlib.Omega.{arith}
+use borrow.Author.Needs.{needs}
+use lib.ListN.{length-take}
+use Rattle.cases.proofs.converter.run.Statement.{statement}
+use Rattle.cases.proofs.converter.run.Tie as tie
+
+array-borrow-prefix-buffer : tie.Need-array-borrow-prefix-buffer
+array-borrow-prefix-buffer c = search needs
+
+slice-aggregate-convert-into : tie.Need-slice-aggregate-convert-into
+slice-aggregate-convert-into c = rw length-take (omega arith)
+
+convert-into-requires : tie.Need-convert-into-requires
+convert-into-requires c κs = search needs
+
+slice-aggregate-line : tie.Need-slice-aggregate-line
+slice-aggregate-line c = search needs
+
+line-requires : tie.Need-line-requires
+line-requires c κs = search needs
+
+returns : tie.Need-returns
+returns c = search needs
+
+returns-2 : tie.Need-returns-2
+returns-2 c = search needs
+
+pub run-spec : {M : Type 1} → statement M
+run-spec = tie.close (tie.spec array-borrow-prefix-buffer slice-aggregate-convert-into convert-into-requires slice-aggregate-line line-requires returns returns-2)
