@@ -1,5 +1,5 @@
 //! The survey record: sixteen words, and for each kind and section which of them are used, within
-//! which limits, and which of them wear. What is used by neither is 0.
+//! which limits, and which of them wear. What is used by neither is 0. And the versions of both files.
 
 use crate::crescent;
 
@@ -36,6 +36,27 @@ pub const CLOSE_STRINGER: u16 = 7;
 pub const FREE_ORDER: u16 = 1;
 /// Version 2: its records stand in one order.
 pub const IN_ORDER: u16 = 2;
+
+/// The vehicle's version 1: a weight in two bytes, up to 60,000.
+pub const LIGHT_AXLES: u16 = 1;
+/// Version 2: "Vehicle version 2 stores a weight in four bytes, 1..200000."
+pub const HEAVY_AXLES: u16 = 2;
+
+/// The greatest weight of an axle, kgf, in this version of a vehicle.
+pub fn heaviest(version: u16) -> u32 {
+    match version {
+        HEAVY_AXLES => 200_000,
+        _ => 60_000,
+    }
+}
+
+/// The bytes of an axle in this version: its weight, then a distance of two.
+pub fn axle_bytes(version: u16) -> usize {
+    match version {
+        HEAVY_AXLES => 4 + 2,
+        _ => 2 + 2,
+    }
+}
 
 /// The words of one record.
 pub type Words = [u16; 16];

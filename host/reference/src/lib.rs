@@ -1,4 +1,4 @@
-//! Document 01 and requests 1 to 8 of document 02 in plain Rust, written from the documents alone,
+//! Document 01 and requests 1 to 9 of document 02 in plain Rust, written from the documents alone,
 //! and a generator of files.
 //!
 //! The proved library is tested against it. It tries every position of the vehicle, counts in
@@ -6,6 +6,7 @@
 //! benchmark.
 
 pub mod between;
+pub mod convert;
 pub mod crescent;
 pub mod fraction;
 pub mod generate;
@@ -22,6 +23,7 @@ pub mod twin;
 pub mod yard;
 
 pub use between::{between, Between, Bounds, Passing};
+pub use convert::convert;
 pub use judge::{judge, Judged, Rated};
 pub use reader::{Axle, File, Member, Refused, Vehicle};
 pub use yard::{yard, Answer, Yard};

@@ -36,32 +36,39 @@ pub struct Member {
 }
 
 /// An axle: weight in kgf and distance in cm from the axle in front.
-#[derive(Clone, Copy, Debug)]
+#[derive(Clone, Copy, Debug, PartialEq, Eq)]
 pub struct Axle {
-    pub weight: u16,
+    pub weight: u32,
     pub distance: u16,
 }
 
-/// A vehicle, front axle first.
-#[derive(Clone, Debug)]
+/// A vehicle, front axle first. It does not keep the version of its file: "A vehicle rates alike in
+/// both versions."
+#[derive(Clone, Debug, PartialEq, Eq)]
 pub struct Vehicle {
     pub class: u8,
     pub track: u16,
     pub axles: Vec<Axle>,
 }
 
-/// How a file begins: its mark, its last version (the first is 1), the bytes before the records, the
-/// most records and the bytes of each.
+/// How a file begins: its mark, the bytes before the records, the most records, and the bytes of each
+/// in a version.
 struct Form {
     mark: &'static [u8; 3],
-    last_version: u16,
     header: usize,
     most: u8,
-    each: usize,
+    each: fn(u16) -> usize,
 }
 
-const SURVEY: Form = Form { mark: b"TBR", last_version: IN_ORDER, header: 6, most: 64, each: 32 };
-const VEHICLE: Form = Form { mark: b"TBV", last_version: 1, header: 9, most: 16, each: 4 };
+const SURVEY: Form = Form { mark: b"TBR", header: 6, most: 64, each: |_| 32 };
+const VEHICLE: Form = Form { mark: b"TBV", header: VEHICLE_HEADER, most: 16, each: axle_bytes };
+
+/// The bytes of a vehicle before its axles; the last of them is their count.
+pub const VEHICLE_HEADER: usize = 9;
+
+/// The versions of a survey and of a vehicle.
+const SURVEY_VERSIONS: [u16; 2] = [FREE_ORDER, IN_ORDER];
+const VEHICLE_VERSIONS: [u16; 2] = [LIGHT_AXLES, HEAVY_AXLES];
 
 fn word(bytes: &[u8], at: usize) -> u16 {
     u16::from_le_bytes([bytes[at], bytes[at + 1]])
@@ -71,14 +78,14 @@ fn within(value: u16, least: u16, greatest: u16) -> bool {
     least <= value && value <= greatest
 }
 
-/// Tests 1 (too short for the header), 2, 3, 1 in that order; the version and the count where all
-/// are passed.
-fn header(bytes: &[u8], form: &Form) -> Result<(u16, usize), u64> {
+/// Tests 1 (too short for the header), 2 (another mark, or a version that is none of these), 3, 1 in
+/// that order; the version and the count where all are passed.
+fn header(bytes: &[u8], form: &Form, versions: &[u16]) -> Result<(u16, usize), u64> {
     if bytes.len() < form.header {
         return Err(1);
     }
     let version = word(bytes, 3);
-    if bytes[..3] != form.mark[..] || !within(version, 1, form.last_version) {
+    if bytes[..3] != form.mark[..] || !versions.contains(&version) {
         return Err(2);
     }
     let count = bytes[form.header - 1];
@@ -86,7 +93,7 @@ fn header(bytes: &[u8], form: &Form) -> Result<(u16, usize), u64> {
         return Err(3);
     }
     let count = usize::from(count);
-    if bytes.len() != form.header + form.each * count {
+    if bytes.len() != form.header + (form.each)(version) * count {
         return Err(1);
     }
     Ok((version, count))
@@ -144,9 +151,10 @@ fn misplaced(records: &[Words]) -> Option<u64> {
 /// one; after all records are otherwise good." "Version 1 keeps free order."
 pub fn records(bytes: &[u8]) -> Result<Vec<Words>, Refused> {
     let refused = |number, place| Refused { file: File::Survey, number, place };
-    let (version, count) = header(bytes, &SURVEY).map_err(|number| refused(number, 0))?;
+    let (version, count) =
+        header(bytes, &SURVEY, &SURVEY_VERSIONS).map_err(|number| refused(number, 0))?;
     let mut records = Vec::with_capacity(count);
-    for (record, place) in bytes[SURVEY.header..].chunks_exact(SURVEY.each).zip(1..) {
+    for (record, place) in bytes[SURVEY.header..].chunks_exact((SURVEY.each)(version)).zip(1..) {
         let words: Words = std::array::from_fn(|i| word(record, 2 * i));
         if let Some(number) = record_fault(&words) {
             return Err(refused(number, place));
@@ -166,22 +174,44 @@ pub fn survey(bytes: &[u8]) -> Result<Vec<Member>, Refused> {
     Ok(records(bytes)?.iter().map(member).collect())
 }
 
-/// A vehicle file's class, track and axles.
-pub fn vehicle(bytes: &[u8]) -> Result<Vehicle, Refused> {
+/// An axle as it stands in this version: a weight of two or four bytes, then the distance.
+fn axle(record: &[u8], version: u16) -> Axle {
+    let (weight, distance) = record.split_at(record.len() - 2);
+    let weight = match version {
+        HEAVY_AXLES => u32::from_le_bytes([weight[0], weight[1], weight[2], weight[3]]),
+        _ => word(weight, 0).into(),
+    };
+    Axle { weight, distance: word(distance, 0) }
+}
+
+/// The same where only these versions are allowed.
+fn vehicle_of(bytes: &[u8], versions: &[u16]) -> Result<Vehicle, Refused> {
     let refused = |number, place| Refused { file: File::Vehicle, number, place };
-    let (_, count) = header(bytes, &VEHICLE).map_err(|number| refused(number, 0))?;
+    let (version, count) =
+        header(bytes, &VEHICLE, versions).map_err(|number| refused(number, 0))?;
     let (class, track) = (bytes[5], word(bytes, 6));
     if class > 1 || !within(track, 100, 300) {
         return Err(refused(7, 0));
     }
     let mut axles = Vec::with_capacity(count);
-    for (record, place) in bytes[VEHICLE.header..].chunks_exact(VEHICLE.each).zip(1..) {
-        let axle = Axle { weight: word(record, 0), distance: word(record, 2) };
+    for (record, place) in bytes[VEHICLE.header..].chunks_exact((VEHICLE.each)(version)).zip(1..) {
+        let axle = axle(record, version);
         let (least, greatest) = if place == 1 { (0, 0) } else { (1, 2000) };
-        if !within(axle.weight, 1, 60000) || !within(axle.distance, least, greatest) {
+        let bearable = (1..=heaviest(version)).contains(&axle.weight);
+        if !bearable || !within(axle.distance, least, greatest) {
             return Err(refused(7, place));
         }
         axles.push(axle);
     }
     Ok(Vehicle { class, track, axles })
+}
+
+/// A vehicle file's class, track and axles: "Both versions are read."
+pub fn vehicle(bytes: &[u8]) -> Result<Vehicle, Refused> {
+    vehicle_of(bytes, &VEHICLE_VERSIONS)
+}
+
+/// The same where only this version is allowed, as the converter has it: any other is refusal 2.
+pub fn vehicle_of_version(bytes: &[u8], version: u16) -> Result<Vehicle, Refused> {
+    vehicle_of(bytes, &[version])
 }

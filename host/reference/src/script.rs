@@ -1,6 +1,6 @@
 //! A script of calls on a session for the program `cases`, with the answers by the documents.
 
-use crate::{between, judge, reader, yard};
+use crate::{between, convert, judge, reader, yard};
 use crate::{Answer, Judged, Member, Passing, Rated, Refused, Vehicle};
 use std::fmt::Write;
 
@@ -12,6 +12,12 @@ const MOST_ANSWERS: usize = 40;
 
 /// The most entries of a list of numbers that it lends.
 const MOST_ENTRIES: usize = 160;
+
+/// The most bytes of a buffer that it lends.
+pub const MOST_BYTES: usize = 160;
+
+/// What each byte of a lent buffer holds.
+const KNOWN_BYTE: u8 = 0xee;
 
 /// Each number of entry i of a lent list is KNOWN + i.
 const KNOWN: u32 = 1_000_000;
@@ -224,6 +230,28 @@ impl Script {
         };
         self.print(&format!("between {answer}"));
         self.print_list(&list);
+    }
+
+    /// Asks for a vehicle file in another version, with a buffer of so many bytes; the whole buffer is
+    /// printed as it is then. The call needs no session, and changes none.
+    pub fn convert(&mut self, wanted: u8, file: &[u8], room: usize) {
+        let body = [&[wanted], &number(room)[..], file].concat();
+        self.step(b'C', body.len(), &body);
+        if room > MOST_BYTES {
+            return self.print("no buffer is so long");
+        }
+        let mut buffer = vec![KNOWN_BYTE; room];
+        let answer = match convert(file, wanted.into(), room) {
+            Ok(bytes) => {
+                let written = bytes.len();
+                fill(&mut buffer, bytes);
+                written.to_string()
+            }
+            Err(fault) => refused(fault.number, fault.place),
+        };
+        self.print(&format!("convert {answer}"));
+        let hex: String = buffer.iter().map(|byte| format!("{byte:02x}")).collect();
+        self.print(format!("bytes {hex}").trim_end());
     }
 
     /// Rates every place of a survey of so many members, and judges with a list that just holds it.

@@ -1,7 +1,8 @@
 //! The whole yard in one go, request 3 of document 02: up to 32 vehicles against one bridge.
 
 use crate::judge::{judge_members, Judged};
-use crate::reader::{self, File, Member, Refused, Vehicle};
+use crate::layout::axle_bytes;
+use crate::reader::{self, File, Member, Refused, Vehicle, VEHICLE_HEADER};
 
 /// The answer for one vehicle; the margin is the governing member's.
 #[derive(Clone, Copy, Debug, PartialEq, Eq)]
@@ -28,9 +29,13 @@ fn refused(file: File, number: u64) -> Refused {
 }
 
 /// "Each vehicle file is as long as its own counts say, or all that is left if fewer": the first
-/// of these bytes, and what is left behind it. Its count is byte 8; a file without one is short.
+/// of these bytes, and what is left behind it. Its version is in bytes 3 and 4, its count in byte 8;
+/// a file without one is short.
 pub fn first_file(left: &[u8]) -> (&[u8], &[u8]) {
-    let length = left.get(8).map_or(left.len(), |&axles| 9 + 4 * usize::from(axles));
+    let length = left.get(..VEHICLE_HEADER).map_or(left.len(), |header| {
+        let version = u16::from_le_bytes([header[3], header[4]]);
+        VEHICLE_HEADER + axle_bytes(version) * usize::from(header[VEHICLE_HEADER - 1])
+    });
     left.split_at(length.min(left.len()))
 }
 

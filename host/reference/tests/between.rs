@@ -10,13 +10,13 @@ use std::collections::BTreeMap;
 use two_surveys::*;
 
 /// Class 0, track 190, one axle.
-fn one_axle(weight: u16) -> Vehicle {
-    read(&VehicleWords { class: 0, track: 190, axles: vec![[weight, 0]] })
+fn one_axle(weight: u32) -> Vehicle {
+    read(&VehicleWords { version: 1, class: 0, track: 190, axles: vec![[weight, 0]] })
 }
 
 /// The vehicle of case L: 1200 kgf/m on case A.
 fn case_l() -> Vehicle {
-    read(&VehicleWords { class: 0, track: 190, axles: vec![[1500, 0], [3000, 370]] })
+    read(&VehicleWords { version: 1, class: 0, track: 190, axles: vec![[1500, 0], [3000, 370]] })
 }
 
 /// Case A with this rot: 1720, 1343, 64 and 0 kgf/m for rot 0, 1, 7 and 8.

@@ -20,7 +20,7 @@ fn chord() -> Member {
 }
 
 /// Class 0, track 190, these weights so far apart.
-fn vehicle(weights: &[u16], apart: u16) -> Vehicle {
+fn vehicle(weights: &[u32], apart: u16) -> Vehicle {
     let axle = |(i, &weight)| Axle { weight, distance: if i == 0 { 0 } else { apart } };
     Vehicle { class: 0, track: 190, axles: weights.iter().enumerate().map(axle).collect() }
 }

@@ -133,7 +133,7 @@ fn a_decayed_piece() {
 /// Base and apex as kind 1: the vehicles of cases I and L.
 #[test]
 fn the_vehicle_load() {
-    let of = |l, weights: [u16; 2], apart| {
+    let of = |l, weights: [u32; 2], apart| {
         let axle = |weight, distance| Axle { weight, distance };
         let axles = vec![axle(weights[0], 0), axle(weights[1], apart)];
         vehicle_load(&Member { l, ..SAWN }, &Vehicle { class: 0, track: 190, axles })

@@ -37,7 +37,11 @@ fn all_numbers_are_tried_at_all_places() {
     }
     let vehicles = damaged_vehicles(&mut Random::new(SEED));
     for place in 0..=16 {
-        assert_eq!(vehicles.iter().filter(|d| d.refusal.place == place).count(), 2);
+        for version in VERSIONS {
+            let here =
+                |d: &&Damaged| d.refusal.place == place && u16::from(d.vehicle[3]) == version;
+            assert_eq!(vehicles.iter().filter(here).count(), 2, "version {version}, place {place}");
+        }
     }
 }
 

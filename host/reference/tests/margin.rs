@@ -26,7 +26,7 @@ fn cross_beam() -> Member {
 }
 
 /// Class 0, track 190, one axle.
-fn axle(weight: u16) -> Vehicle {
+fn axle(weight: u32) -> Vehicle {
     Vehicle { class: 0, track: 190, axles: vec![Axle { weight, distance: 0 }] }
 }
 
@@ -35,7 +35,7 @@ fn said(judged: &Judged) -> (u64, u64, bool, i64) {
     (judged.figure, judged.governing, judged.passes, judged.margin)
 }
 
-fn under(members: &[Member], weight: u16) -> (u64, u64, bool, i64) {
+fn under(members: &[Member], weight: u32) -> (u64, u64, bool, i64) {
     said(&judge_members(members, &axle(weight)))
 }
 

@@ -179,20 +179,15 @@ fn the_header_comes_first() {
     }
 }
 
-/// Every version word: 1 and 2 of surveys, 1 of vehicles.
+/// Every version word: 1 and 2 are a survey's.
 #[test]
 fn versions() {
     let records = [at([1, 500, 140]), at([1, 499, 140])];
-    let vehicle = VehicleWords { class: 0, track: 190, axles: vec![[1500, 0]] };
-    let vehicle = vehicle_bytes(&vehicle);
     for version in 0..=u16::MAX {
         let refused = (!(1..=2).contains(&version)).then_some((2, 0));
         assert_eq!(refusal(version, &records[..1]), refused, "version {version}");
         let falling = if version == 2 { Some((16, 2)) } else { refused };
         assert_eq!(refusal(version, &records), falling, "version {version}");
-        let answer = reader::vehicle(&with_version(&vehicle, version)).err();
-        let refused = Refused { file: File::Vehicle, number: 2, place: 0 };
-        assert_eq!(answer, (version != 1).then_some(refused), "version {version}");
     }
 }
 

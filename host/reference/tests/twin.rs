@@ -29,7 +29,8 @@ fn crescent(diameter: u16, depth: u16, tiers: u16) -> Words {
 
 #[test]
 fn the_twin_agrees_on_every_crescent() {
-    let vehicle = vehicle_bytes(&VehicleWords { class: 0, track: 190, axles: vec![[1, 0]] });
+    let vehicle =
+        vehicle_bytes(&VehicleWords { version: 1, class: 0, track: 190, axles: vec![[1, 0]] });
     for diameter in 14..=36 {
         for tiers in 1..=3 {
             let members: Vec<Words> =
@@ -59,7 +60,8 @@ fn the_twin_agrees_on_every_track_and_spacing() {
     let on = |deck| (30..=100).map(move |spacing| close_stringer(spacing, deck));
     let members: Vec<Words> = decks.into_iter().flat_map(on).collect();
     for track in 100..=300 {
-        let vehicle = vehicle_bytes(&VehicleWords { class: 0, track, axles: vec![[1, 0]] });
+        let vehicle =
+            vehicle_bytes(&VehicleWords { version: 1, class: 0, track, axles: vec![[1, 0]] });
         for members in members.chunks(64) {
             let survey = survey_bytes(members);
             let (fast, slow) = (twin::judge(&survey, &vehicle), judge(&survey, &vehicle));
@@ -86,7 +88,8 @@ fn the_twin_agrees_where_seven_stringers_begin() {
 /// k at a half of a ten-thousandth: 301.5, 724.5 and 3392.5, each of which β shows.
 #[test]
 fn the_twin_rounds_half_up() {
-    let vehicle = vehicle_bytes(&VehicleWords { class: 0, track: 190, axles: vec![[1, 0]] });
+    let vehicle =
+        vehicle_bytes(&VehicleWords { version: 1, class: 0, track: 190, axles: vec![[1, 0]] });
     for (diameter, span, spacing, boards, thickness, width) in
         [(16, 200, 60, 4, 12, 40), (27, 200, 30, 4, 9, 40), (24, 100, 30, 4, 12, 18)]
     {

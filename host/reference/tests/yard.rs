@@ -15,8 +15,13 @@ fn bridge(survey: &[u8]) -> Vec<Member> {
     reader::survey(survey).expect("a sound survey")
 }
 
-fn lorry(weights: [u16; 2]) -> VehicleWords {
-    VehicleWords { class: 0, track: 190, axles: vec![[weights[0], 0], [weights[1], 370]] }
+fn lorry(weights: [u32; 2]) -> VehicleWords {
+    VehicleWords {
+        version: 1,
+        class: 0,
+        track: 190,
+        axles: vec![[weights[0], 0], [weights[1], 370]],
+    }
 }
 
 /// The vehicle of case L: 1200 kgf/m on case A.
@@ -67,7 +72,7 @@ fn one_answer_a_vehicle() {
 /// n = 1.1 for class 1: 1720.2 × 1.4 / 1.1 is above 2189.
 #[test]
 fn each_vehicle_has_its_own_figure() {
-    let tractor = vehicle_bytes(&VehicleWords { class: 1, ..lorry([1500, 3000]) });
+    let tractor = vehicle_bytes(&VehicleWords { version: 1, class: 1, ..lorry([1500, 3000]) });
     let two = said(&joined(&[case_l(), tractor]), 2);
     assert_eq!(two, Ok((vec![(1720, 1, true, 520), (2189, 1, true, 989)], 2)));
     let worn = said_of(Some(&bridge(&stringer(1))), &joined(&[case_l()]), 1);

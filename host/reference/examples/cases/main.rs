@@ -7,6 +7,7 @@ mod close_stringers;
 mod crescents;
 mod document;
 mod edges;
+mod heavier;
 mod margins;
 mod order;
 mod records;
@@ -32,6 +33,7 @@ fn script() -> Script {
     margins::cases(&mut script);
     between::cases(&mut script);
     order::cases(&mut script);
+    heavier::cases(&mut script);
     script
 }
 

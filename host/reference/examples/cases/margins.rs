@@ -2,12 +2,12 @@
 //! figure is another's, and ties of like and unlike members; the same in a yard.
 
 use crate::records::*;
-use reference::generate::{joined, VehicleWords};
+use reference::generate::{joined, AxleWords, VehicleWords};
 use reference::layout::*;
 use reference::script::Script;
 
 /// Single axles: on cases A, F and E they give 0.4, 0.5 and 0.2 of their weight.
-fn axle(weight: u16) -> VehicleWords {
+fn axle(weight: u32) -> VehicleWords {
     lorry(&[[weight, 0]])
 }
 
@@ -22,7 +22,7 @@ fn long_stringer(rot: u16) -> Words {
 }
 
 /// The bridge under one axle of each weight.
-fn under(script: &mut Script, title: &str, members: &[Words], weights: &[u16]) {
+fn under(script: &mut Script, title: &str, members: &[Words], weights: &[u32]) {
     script.title(title);
     script.survey(&survey_of(members));
     for &weight in weights {
@@ -89,7 +89,7 @@ fn far_apart(script: &mut Script) {
     let plates = with(plates, &[(S1, 10000), (S2, 0)]);
     let rotten = with(stringer(20), &[(SPAN, 100)]);
     let beam = with(cross_beam(), &[(FROM_SUPPORT, 10), (S2, 20)]);
-    let heavy: Vec<[u16; 2]> = (0..16).map(|i| [60000, u16::from(i > 0)]).collect();
+    let heavy: Vec<AxleWords> = (0..16).map(|i| [60000, u32::from(i > 0)]).collect();
     let vehicles = [axle(1), lorry(&heavy)].map(|words| VehicleWords { class: 1, ..words });
     script.title("the greatest and the least margin");
     for members in [&[plates][..], &[plates, rotten, beam]] {
@@ -103,7 +103,7 @@ fn far_apart(script: &mut Script) {
 }
 
 fn yards(script: &mut Script) {
-    let yard = |weights: &[u16]| {
+    let yard = |weights: &[u32]| {
         joined(&weights.iter().map(|&w| vehicle_of(&axle(w))).collect::<Vec<_>>())
     };
     let members = [stringer(0), cross_beam(), worn_chord()];

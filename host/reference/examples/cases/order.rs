@@ -98,7 +98,7 @@ fn turns(script: &mut Script) {
     }
     script.survey(&with_version(&file, 3));
     script.title("versions of a vehicle");
-    for version in [0, 2, 257] {
+    for version in [0, 3, 257] {
         script.vehicle(&with_version(&vehicle_of(&case_l()), version));
     }
 }

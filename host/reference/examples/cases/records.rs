@@ -1,7 +1,7 @@
 //! Records of every kind and section with usual numbers, and their files.
 
-use reference::generate::VehicleWords;
 pub use reference::generate::{survey_bytes as survey_of, vehicle_bytes as vehicle_of};
+use reference::generate::{AxleWords, VehicleWords};
 use reference::layout::*;
 
 /// Every kind with each of its sections.
@@ -89,8 +89,8 @@ pub fn cross_beam() -> Words {
 }
 
 /// Class 0, track 190, these axles: weight and distance from the axle in front.
-pub fn lorry(axles: &[[u16; 2]]) -> VehicleWords {
-    VehicleWords { class: 0, track: 190, axles: axles.to_vec() }
+pub fn lorry(axles: &[AxleWords]) -> VehicleWords {
+    VehicleWords { version: LIGHT_AXLES, class: 0, track: 190, axles: axles.to_vec() }
 }
 
 /// The vehicle of case L.

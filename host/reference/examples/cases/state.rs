@@ -58,7 +58,7 @@ fn refused_surveys() -> Vec<Vec<u8>> {
 fn refused_vehicles() -> Vec<Vec<u8>> {
     let sound = vehicle_of(&case_l());
     let changed = |at, byte| with_byte(&sound, at, byte);
-    vec![sound[..8].to_vec(), changed(3, 2), changed(8, 17), changed(5, 2), changed(11, 1)]
+    vec![sound[..8].to_vec(), changed(3, 3), changed(8, 17), changed(5, 2), changed(11, 1)]
 }
 
 /// Loads that are refused, before and after both files were taken.

@@ -1,7 +1,7 @@
 //! Every refusal of a vehicle: header, class and track, and each axle.
 
 use crate::records::*;
-use reference::generate::VehicleWords;
+use reference::generate::{AxleWords, VehicleWords};
 use reference::script::Script;
 
 fn headers(script: &mut Script) {
@@ -41,17 +41,17 @@ fn fronts(script: &mut Script) {
     }
     script.title("class and track come before the axles");
     let axles = vec![[0, 1], [0, 0]];
-    script.vehicle(&vehicle_of(&VehicleWords { class: 2, track: 99, axles: axles.clone() }));
+    script.vehicle(&vehicle_of(&VehicleWords { class: 2, track: 99, ..lorry(&axles) }));
     script.vehicle(&vehicle_of(&lorry(&axles)));
 }
 
 /// Each axle's weight and distance just inside and outside its range.
 fn axles(script: &mut Script, count: usize) {
-    let sound: Vec<[u16; 2]> = (0..count).map(|i| [5000, if i == 0 { 0 } else { 200 }]).collect();
+    let sound: Vec<AxleWords> = (0..count).map(|i| [5000, if i == 0 { 0 } else { 200 }]).collect();
     let mut places = vec![0, count / 2, count - 1];
     places.dedup();
     for place in places {
-        let distances: &[u16] = if place == 0 { &[0, 1, 2000] } else { &[0, 1, 2000, 2001, 65535] };
+        let distances: &[u32] = if place == 0 { &[0, 1, 2000] } else { &[0, 1, 2000, 2001, 65535] };
         let weights = [0, 1, 60000, 60001, 65535].map(|weight| (0, weight));
         for (word, value) in weights.into_iter().chain(distances.iter().map(|&d| (1, d))) {
             let name = ["weight", "distance"][word];
@@ -62,7 +62,7 @@ fn axles(script: &mut Script, count: usize) {
         }
     }
     script.title(&format!("{count} axles, the first faulty axle"));
-    let all: Vec<[u16; 2]> = sound.iter().map(|_| [0, 0]).collect();
+    let all: Vec<AxleWords> = sound.iter().map(|_| [0, 0]).collect();
     script.vehicle(&vehicle_of(&lorry(&[&sound[..count / 2], &all[count / 2..]].concat())));
 }
 

@@ -2,12 +2,12 @@
 //! of neighbours in their order, and what the call keeps.
 
 use crate::records::*;
-use reference::generate::{joined, VehicleWords};
+use reference::generate::{joined, AxleWords, VehicleWords};
 use reference::layout::*;
 use reference::script::Script;
 
 /// A lorry of two axles with this much on each.
-fn of_weight(weight: u16) -> VehicleWords {
+fn of_weight(weight: u32) -> VehicleWords {
     lorry(&[[weight, 0], [weight, 370]])
 }
 
@@ -16,18 +16,18 @@ fn sound() -> Vec<u8> {
 }
 
 /// So many vehicles: each heavier than the one before, of both classes, with tracks that differ.
-fn rising(count: u16, step: u16) -> Vec<Vec<u8>> {
+fn rising(count: u16, step: u32) -> Vec<Vec<u8>> {
     let each = |i: u16| VehicleWords {
         class: (i % 2).to_le_bytes()[0],
         track: 100 + 60 * (i % 4),
-        ..of_weight(1 + step * i)
+        ..of_weight(1 + step * u32::from(i))
     };
     (0..count).map(|i| vehicle_of(&each(i))).collect()
 }
 
 /// 16 axles of this weight, so far apart.
-fn long(weight: u16, apart: u16) -> Vec<u8> {
-    let axles: Vec<[u16; 2]> = (0..16).map(|i| [weight, if i == 0 { 0 } else { apart }]).collect();
+fn long(weight: u32, apart: u32) -> Vec<u8> {
+    let axles: Vec<AxleWords> = (0..16).map(|i| [weight, if i == 0 { 0 } else { apart }]).collect();
     vehicle_of(&lorry(&axles))
 }
 
@@ -63,10 +63,10 @@ fn lengths(script: &mut Script) {
 }
 
 fn passes(script: &mut Script) {
-    let of_weights = |all: &[u16]| {
+    let of_weights = |all: &[u32]| {
         joined(&all.iter().map(|&weight| vehicle_of(&of_weight(weight))).collect::<Vec<_>>())
     };
-    let yards: [(&str, &[u16]); 5] = [
+    let yards: [(&str, &[u32]); 5] = [
         ("none passes", &[60000, 59999, 50000]),
         ("all pass", &[1, 2, 3]),
         ("the first passes", &[1, 60000, 60000]),
@@ -152,7 +152,7 @@ fn faulty() -> Vec<(&'static str, Vec<u8>)> {
     };
     vec![
         ("mark", with_byte(&sound(), 2, b'R')),
-        ("version", with_byte(&sound(), 3, 2)),
+        ("version", with_byte(&sound(), 3, 3)),
         ("class", with_byte(&sound(), 5, 2)),
         ("track", with_byte(&sound(), 7, 2)),
         ("the first axle's distance", with_axle(0, [5000, 1])),

@@ -2,14 +2,16 @@
 //! make the verdict tell a vehicle load that is wrong by a little.
 
 use super::{survey, survey_bytes, vehicle, vehicle_bytes, Random, Spread, VehicleWords};
+use crate::layout::heaviest;
 use crate::{reader, twin, Member, Rated};
 
 /// Every weight in the same proportion, rounded down; None where one leaves its range.
 fn scaled(vehicle: &VehicleWords, by: u64, over: u64) -> Option<VehicleWords> {
     let mut scaled = vehicle.clone();
+    let heaviest = heaviest(vehicle.version);
     for axle in &mut scaled.axles {
-        let weight = u16::try_from(u64::from(axle[0]) * by / over).ok()?;
-        axle[0] = Some(weight).filter(|weight| (1..=60000).contains(weight))?;
+        let weight = u32::try_from(u64::from(axle[0]) * by / over).ok()?;
+        axle[0] = Some(weight).filter(|weight| (1..=heaviest).contains(weight))?;
     }
     Some(scaled)
 }
@@ -37,7 +39,8 @@ pub(super) fn brink(
     // Rounding down took less than 1 kgf from each axle: it is given back in small steps.
     loop {
         let mut heavier = passing.clone();
-        heavier.axles[random.below(any.axles.len())][0] += 1;
+        let weight = &mut heavier.axles[random.below(any.axles.len())][0];
+        *weight = Some(*weight + 1).filter(|weight| *weight <= heaviest(any.version))?;
         if !rate(&heavier)?.iter().all(|rated| rated.passes()) {
             return Some([passing, heavier]);
         }

@@ -106,14 +106,33 @@ pub fn damage_survey(random: &mut Random, words: &mut Words, damage: SurveyDamag
     true
 }
 
+/// A weight outside the range of this version. Many of version 2 have a lower half that would be within
+/// it, or bytes in another order.
+pub(super) fn no_weight(random: &mut Random, version: u16) -> u32 {
+    if version != HEAVY_AXLES {
+        return outside(random, 1, 60000).into();
+    }
+    let least = heaviest(version) + 1;
+    let lower_half = random.large(1, 60000);
+    let exchanged = random.large(1, least - 1);
+    match random.below(6) {
+        0 => 0,
+        1 => least,
+        2 => random.large(4, 0xffff) << 16 | lower_half,
+        3 => exchanged.rotate_left(16).max(least),
+        4 => exchanged.swap_bytes().max(least),
+        _ => random.large(least, u32::MAX),
+    }
+}
+
 /// Damages a sound vehicle; the place of the fault comes back.
 pub fn damage_vehicle(random: &mut Random, words: &mut VehicleWords, damage: VehicleDamage) -> u64 {
     match damage {
         VehicleDamage::Class => words.class = random.edgy(2, 255).to_le_bytes()[0],
         VehicleDamage::Track => words.track = outside(random, 100, 300),
-        VehicleDamage::Weight(i) => words.axles[i][0] = outside(random, 1, 60000),
-        VehicleDamage::Distance(0) => words.axles[0][1] = outside(random, 0, 0),
-        VehicleDamage::Distance(i) => words.axles[i][1] = outside(random, 1, 2000),
+        VehicleDamage::Weight(i) => words.axles[i][0] = no_weight(random, words.version),
+        VehicleDamage::Distance(0) => words.axles[0][1] = outside(random, 0, 0).into(),
+        VehicleDamage::Distance(i) => words.axles[i][1] = outside(random, 1, 2000).into(),
     }
     match damage {
         VehicleDamage::Class | VehicleDamage::Track => 0,
@@ -160,13 +179,23 @@ pub fn some_damage(random: &mut Random) -> (Vec<u8>, Vec<u8>) {
         0..=3 => spoil(random, &mut survey),
         4..=7 => spoil(random, &mut vehicle),
         8 => survey = with_version(&survey, *random.pick(&NO_VERSIONS)),
-        9 => vehicle = with_version(&vehicle, *random.pick(&[2, 3, 257])),
+        9 => vehicle = with_version(&vehicle, *random.pick(&NO_VERSIONS)),
+        10 => vehicle = of_other_version(&vehicle),
         _ => {}
     }
     (survey, vehicle)
 }
 
-/// Any bytes up to this length; some of them with a mark and a survey's version in front.
+/// A vehicle file with the other version in its header, where it has one: the length is still that of
+/// its own.
+pub(super) fn of_other_version(bytes: &[u8]) -> Vec<u8> {
+    match bytes.get(3..5) {
+        Some(&[version @ (1 | 2), 0]) => with_version(bytes, u16::from(3 - version)),
+        _ => bytes.to_vec(),
+    }
+}
+
+/// Any bytes up to this length; some of them with a mark and a version in front.
 pub fn any_bytes(random: &mut Random, mark: &[u8; 3], longest: usize) -> Vec<u8> {
     let length = random.below(longest + 1);
     let mut bytes = random.bytes(length);

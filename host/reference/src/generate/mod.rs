@@ -6,6 +6,7 @@ mod brink;
 mod corners;
 mod damage;
 mod disorder;
+mod heavier;
 mod order;
 mod places;
 mod random;
@@ -24,6 +25,10 @@ pub use brink::at_the_limit;
 pub use corners::corners;
 pub use damage::{any_bytes, some_damage};
 pub use disorder::{disorder, Disorder};
+pub use heavier::{
+    damaged_conversions, length, other_version, some_conversion, sound_conversion, wrong_lengths,
+    Conversion, DamagedConversion,
+};
 pub use order::{
     alike_survey, any_survey, full_survey_file, in_order, misplace, misplaced_surveys, one_before,
     some_version, survey_file, with_version, wrong_versions, Misplaced, NO_VERSIONS,
@@ -32,6 +37,9 @@ pub use places::{damaged_surveys, damaged_vehicles, Damaged};
 pub use random::Random;
 pub use survey::{full_survey, survey, survey_bytes, survey_bytes_of, Spread};
 pub use tie::at_a_tie;
-pub use vehicle::{vehicle, vehicle_bytes, AxleWords, VehicleWords};
-pub use worse::{matched_survey, worse_survey, worse_vehicle, Matched, Wear};
+pub use vehicle::{
+    fits, fitting_vehicle, vehicle, vehicle_bytes, vehicle_of, AxleWords, VehicleWords,
+    HEAVY_EDGES, VERSIONS,
+};
+pub use worse::{matched_survey, two_vehicles, worse_survey, worse_vehicle, Matched, Wear};
 pub use yard::{damaged_yards, joined, some_yard_damage, yard, yard_bytes, DamagedYard};

@@ -3,7 +3,8 @@
 
 use super::damage::{damage_survey, SurveyDamage};
 use super::survey::{full_survey, member, survey, survey_bytes, survey_bytes_of};
-use super::{vehicle, vehicle_bytes, Damaged, Random, Spread};
+use super::vehicle::{vehicle, vehicle_bytes, vehicle_of, VERSIONS};
+use super::{Damaged, Random, Spread};
 use crate::layout::*;
 use crate::reader::{File, Refused};
 
@@ -192,22 +193,27 @@ pub fn with_version(bytes: &[u8], version: u16) -> Vec<u8> {
     [&bytes[..3], &version.to_le_bytes(), &bytes[5..]].concat()
 }
 
-/// Sound files but for their version; the records of the survey are in order or not.
+/// Sound files but for their version: surveys whose records are in order or not, and vehicles of either
+/// version.
 pub fn wrong_versions(random: &mut Random) -> Vec<Damaged> {
     let (members, axles) = (1 + random.below(64), 1 + random.below(16));
     let survey = survey_bytes(&alike_survey(random, Spread::Wide, members));
-    let vehicle = vehicle_bytes(&vehicle(random, Spread::Wide, axles));
+    let vehicles =
+        VERSIONS.map(|version| vehicle_bytes(&vehicle_of(random, version, Spread::Wide, axles)));
     let refusal = |file| Refused { file, number: 2, place: 0 };
-    let of_survey = NO_VERSIONS.map(|version| Damaged {
-        survey: with_version(&survey, version),
-        vehicle: vehicle.clone(),
-        refusal: refusal(File::Survey),
-    });
-    // Vehicles have no second version.
-    let of_vehicle = NO_VERSIONS.into_iter().chain([2]).map(|version| Damaged {
-        survey: survey.clone(),
-        vehicle: with_version(&vehicle, version),
-        refusal: refusal(File::Vehicle),
-    });
-    of_survey.into_iter().chain(of_vehicle).collect()
+    let mut all = Vec::new();
+    for (vehicle, version) in vehicles.iter().flat_map(|vehicle| NO_VERSIONS.map(|v| (vehicle, v)))
+    {
+        all.push(Damaged {
+            survey: with_version(&survey, version),
+            vehicle: vehicle.clone(),
+            refusal: refusal(File::Survey),
+        });
+        all.push(Damaged {
+            survey: survey.clone(),
+            vehicle: with_version(vehicle, version),
+            refusal: refusal(File::Vehicle),
+        });
+    }
+    all
 }

@@ -1,7 +1,8 @@
 //! The largest files with one damage, in each way and at each place that it can have.
 
 use super::damage::{damage_survey, damage_vehicle, SurveyDamage, VehicleDamage};
-use super::{full_survey, survey_bytes, vehicle, vehicle_bytes, Random, Spread};
+use super::vehicle::{vehicle, vehicle_bytes, vehicle_of, VERSIONS};
+use super::{full_survey, survey_bytes, Random, Spread};
 use crate::reader::{File, Refused};
 
 /// A pair of files and the refusal that it must have.
@@ -29,16 +30,19 @@ pub fn damaged_surveys(random: &mut Random) -> Vec<Damaged> {
     all
 }
 
-/// A vehicle of 16 axles damaged in each way at each place; the survey is sound.
+/// A vehicle of 16 axles, of each version, damaged in each way at each place; the survey is sound.
 pub fn damaged_vehicles(random: &mut Random) -> Vec<Damaged> {
     let survey = survey_bytes(&full_survey(random, Spread::Wide));
-    let sound = vehicle(random, Spread::Wide, 16);
-    let axles = (0..16).flat_map(|i| [VehicleDamage::Weight(i), VehicleDamage::Distance(i)]);
-    let each = |damage| {
-        let mut damaged = sound.clone();
-        let place = damage_vehicle(random, &mut damaged, damage);
-        let refusal = Refused { file: File::Vehicle, number: 7, place };
-        Damaged { survey: survey.clone(), vehicle: vehicle_bytes(&damaged), refusal }
-    };
-    axles.chain([VehicleDamage::Class, VehicleDamage::Track]).map(each).collect()
+    let mut all = Vec::new();
+    for version in VERSIONS {
+        let sound = vehicle_of(random, version, Spread::Wide, 16);
+        let axles = (0..16).flat_map(|i| [VehicleDamage::Weight(i), VehicleDamage::Distance(i)]);
+        for damage in axles.chain([VehicleDamage::Class, VehicleDamage::Track]) {
+            let mut damaged = sound.clone();
+            let place = damage_vehicle(random, &mut damaged, damage);
+            let refusal = Refused { file: File::Vehicle, number: 7, place };
+            all.push(Damaged { survey: survey.clone(), vehicle: vehicle_bytes(&damaged), refusal });
+        }
+    }
+    all
 }

@@ -43,6 +43,12 @@ impl Random {
         }
     }
 
+    /// A number of four bytes from `least` to `greatest`, all alike.
+    pub fn large(&mut self, least: u32, greatest: u32) -> u32 {
+        let above = self.bits() % (u64::from(greatest - least) + 1);
+        least + u32::try_from(above).expect("at most the difference of two u32")
+    }
+
     /// One time in `times`.
     pub fn once_in(&mut self, times: usize) -> bool {
         self.below(times) == 0

@@ -1,40 +1,84 @@
-//! Vehicle files that the document allows.
+//! Vehicle files that the document allows, of both versions.
 
 use super::{Random, Spread};
+use crate::layout::{heaviest, HEAVY_AXLES, LIGHT_AXLES};
 
-/// An axle's two words: weight and distance from the axle in front.
-pub type AxleWords = [u16; 2];
+/// An axle's two numbers: weight and distance from the axle in front.
+pub type AxleWords = [u32; 2];
 
 /// A vehicle's numbers as they stand in its file.
 #[derive(Clone)]
 pub struct VehicleWords {
+    pub version: u16,
     pub class: u8,
     pub track: u16,
     pub axles: Vec<AxleWords>,
 }
 
-fn axle(random: &mut Random, spread: Spread, first: bool) -> AxleWords {
-    let (weight, distance) = match spread {
-        Spread::Wide => (random.edgy(1, 60000), random.edgy(1, 2000)),
-        Spread::Usual => (random.between(300, 9000), random.between(90, 700)),
-    };
-    [weight, if first { 0 } else { distance }]
+/// Both versions of a vehicle.
+pub const VERSIONS: [u16; 2] = [LIGHT_AXLES, HEAVY_AXLES];
+
+/// Weights of version 2 by which readings differ: both sides of what version 1 holds, of two bytes and
+/// of three, and the ends.
+pub const HEAVY_EDGES: [u32; 9] =
+    [1, 59_999, 60_000, 60_001, 65_535, 65_536, 131_072, 199_999, 200_000];
+
+/// A weight from the whole range of this version, its edges often.
+fn wide_weight(random: &mut Random, version: u16) -> u32 {
+    match version {
+        HEAVY_AXLES if random.once_in(2) => *random.pick(&HEAVY_EDGES),
+        HEAVY_AXLES => random.large(1, heaviest(version)),
+        _ => random.edgy(1, 60000).into(),
+    }
 }
 
-/// A vehicle of so many axles.
-pub fn vehicle(random: &mut Random, spread: Spread, count: usize) -> VehicleWords {
+fn axle(random: &mut Random, version: u16, spread: Spread, first: bool) -> AxleWords {
+    let (weight, distance) = match spread {
+        Spread::Wide => (wide_weight(random, version), random.edgy(1, 2000)),
+        Spread::Usual => (random.between(300, 9000).into(), random.between(90, 700)),
+    };
+    [weight, if first { 0 } else { distance.into() }]
+}
+
+/// A vehicle of this version with so many axles.
+pub fn vehicle_of(random: &mut Random, version: u16, spread: Spread, count: usize) -> VehicleWords {
     let class = *random.pick(&[0, 1]);
     let track = random.edgy(100, 300);
-    let axles = (0..count).map(|i| axle(random, spread, i == 0)).collect();
-    VehicleWords { class, track, axles }
+    let axles = (0..count).map(|i| axle(random, version, spread, i == 0)).collect();
+    VehicleWords { version, class, track, axles }
 }
 
-/// The file of this vehicle.
+/// A vehicle of either version with so many axles.
+pub fn vehicle(random: &mut Random, spread: Spread, count: usize) -> VehicleWords {
+    let version = *random.pick(&VERSIONS);
+    vehicle_of(random, version, spread, count)
+}
+
+/// A vehicle of version 2 whose weights fit version 1, so many axles.
+pub fn fitting_vehicle(random: &mut Random, spread: Spread, count: usize) -> VehicleWords {
+    let light = vehicle_of(random, LIGHT_AXLES, spread, count);
+    VehicleWords { version: HEAVY_AXLES, ..light }
+}
+
+/// Does each weight fit this version?
+pub fn fits(vehicle: &VehicleWords, version: u16) -> bool {
+    vehicle.axles.iter().all(|axle| axle[0] <= heaviest(version))
+}
+
+/// The file of this vehicle; a weight of version 1 is one of two bytes.
 pub fn vehicle_bytes(vehicle: &VehicleWords) -> Vec<u8> {
-    let mut bytes = b"TBV\x01\x00".to_vec();
+    let mut bytes = b"TBV".to_vec();
+    bytes.extend(vehicle.version.to_le_bytes());
     bytes.push(vehicle.class);
     bytes.extend(vehicle.track.to_le_bytes());
     bytes.push(u8::try_from(vehicle.axles.len()).expect("a count of one byte"));
-    bytes.extend(vehicle.axles.iter().flatten().flat_map(|word| word.to_le_bytes()));
+    let two_bytes = |number: u32| u16::try_from(number).expect("a number of two bytes");
+    for &[weight, distance] in &vehicle.axles {
+        match vehicle.version {
+            HEAVY_AXLES => bytes.extend(weight.to_le_bytes()),
+            _ => bytes.extend(two_bytes(weight).to_le_bytes()),
+        }
+        bytes.extend(two_bytes(distance).to_le_bytes());
+    }
     bytes
 }

@@ -2,7 +2,8 @@
 //! heavier axles, members and axles added; all else the same.
 
 use super::survey::survey;
-use super::{vehicle, Random, Spread, VehicleWords};
+use super::vehicle::{fits, fitting_vehicle, vehicle_of, VehicleWords, VERSIONS};
+use super::{Random, Spread};
 use crate::layout::*;
 
 /// A number that stays, grows by 1 or grows as far as its range goes.
@@ -72,15 +73,49 @@ pub fn matched_survey(
     Matched { records: places.iter().map(|&i| worse[i]).collect(), partners }
 }
 
-/// The same axles, none lighter, and up to `more` others behind them.
-pub fn worse_vehicle(random: &mut Random, first: &VehicleWords, more: usize) -> VehicleWords {
-    let mut worse = first.clone();
+/// A weight that stays, grows by 1 or grows as far as its range goes.
+fn heavier(random: &mut Random, weight: u32, greatest: u32) -> u32 {
+    match random.below(4) {
+        0 | 1 => weight,
+        2 => (weight + 1).min(greatest),
+        _ => random.large(weight, greatest),
+    }
+}
+
+/// The same axles in this version, none lighter, and up to `more` others behind them. The version is
+/// one that each weight fits.
+fn worse_in(random: &mut Random, first: &VehicleWords, version: u16, more: usize) -> VehicleWords {
+    let mut worse = VehicleWords { version, ..first.clone() };
     for axle in &mut worse.axles {
-        axle[0] = grown(random, axle[0], 60000);
+        axle[0] = heavier(random, axle[0], heaviest(version));
     }
     let added = random.below((16 - first.axles.len()).min(more) + 1);
     // The first axle of a vehicle has no distance, so the added ones are the axles after it.
-    let others = vehicle(random, Spread::Usual, added + 1);
+    let others = vehicle_of(random, version, Spread::Usual, added + 1);
     worse.axles.extend(&others.axles[1..]);
     worse
+}
+
+/// The same axles, none lighter, and up to `more` others behind them, in either version that each
+/// weight fits.
+pub fn worse_vehicle(random: &mut Random, first: &VehicleWords, more: usize) -> VehicleWords {
+    let version = *random.pick(&VERSIONS);
+    let version = if fits(first, version) { version } else { first.version };
+    worse_in(random, first, version, more)
+}
+
+/// A vehicle of so many axles and a heavier one, in these versions.
+pub fn two_vehicles(
+    random: &mut Random,
+    versions: [u16; 2],
+    spread: Spread,
+    axles: usize,
+    more: usize,
+) -> [VehicleWords; 2] {
+    let first = match versions {
+        [HEAVY_AXLES, LIGHT_AXLES] => fitting_vehicle(random, spread, axles),
+        _ => vehicle_of(random, versions[0], spread, axles),
+    };
+    let second = worse_in(random, &first, versions[1], more);
+    [first, second]
 }

@@ -1,7 +1,7 @@
 //! Yards: vehicle files joined behind their count, sound ones and damaged in every way that has a
 //! number.
 
-use super::damage::{damage_vehicle, spoil, VehicleDamage};
+use super::damage::{damage_vehicle, of_other_version, spoil, VehicleDamage};
 use super::{vehicle, vehicle_bytes, Random, Spread, VehicleWords};
 
 /// The most vehicles of a yard.
@@ -27,7 +27,7 @@ fn files(vehicles: &[VehicleWords]) -> Vec<Vec<u8>> {
     vehicles.iter().map(vehicle_bytes).collect()
 }
 
-/// So many vehicles of up to so many axles.
+/// So many vehicles of up to so many axles, of either version each.
 pub fn yard(random: &mut Random, spread: Spread, count: usize, axles: usize) -> Vec<VehicleWords> {
     let mut vehicles = Vec::with_capacity(count);
     for _ in 0..count {
@@ -102,13 +102,14 @@ pub fn damaged_yards(random: &mut Random) -> Vec<DamagedYard> {
 /// One damage of a yard, whatever was done to it before.
 fn damage(random: &mut Random, count: &mut usize, files: &mut [Vec<u8>]) {
     let i = random.below(files.len());
-    match random.below(8) {
+    match random.below(9) {
         0 => *count = *random.pick(&[0, MOST, MOST + 1, 255]),
         1 => *count += 1,
         2 => *count = count.saturating_sub(1),
         3 => spoil(random, &mut files[i]),
         4 => files[i].truncate(8),
         5 if files[i].len() > 8 => files[i][8] = random.bits().to_le_bytes()[0] & 31,
+        6 => files[i] = of_other_version(&files[i]),
         _ => {
             let any = vehicle(random, Spread::Wide, 2);
             files[i] = damaged_vehicle(random, &any).0;
