@@ -19,6 +19,20 @@ fn the_twin_agrees_with_brute_force() {
     }
 }
 
+/// Every edge of a weight of four bytes, and as much as 16 axles bring.
+#[test]
+fn the_twin_agrees_on_heavier_axles() {
+    let survey = survey_bytes(&full_survey(&mut Random::new(0x771c), Spread::Wide));
+    let many = |weight| (0..16).map(|i| [weight, i.min(1)]).collect();
+    for axles in HEAVY_EDGES.into_iter().flat_map(|weight| [vec![[weight, 0]], many(weight)]) {
+        let vehicle = VehicleWords { version: 2, class: 1, track: 190, axles };
+        let vehicle = vehicle_bytes(&vehicle);
+        let (fast, slow) = (twin::judge(&survey, &vehicle), judge(&survey, &vehicle));
+        assert!(slow.is_ok(), "{slow:?}");
+        assert_eq!(fast, slow);
+    }
+}
+
 /// A stringer of logs that rot from above, of the least span: the figure shows a tenth of a cm³.
 fn crescent(diameter: u16, depth: u16, tiers: u16) -> Words {
     let mut words: Words = [0; 16];
@@ -114,9 +128,11 @@ fn the_twin_refuses_alike() {
 }
 
 #[test]
-fn the_twin_refuses_records_out_of_order() {
+fn the_twin_refuses_records_out_of_order_versions_and_lengths() {
     let mut random = Random::new(0x771b);
-    for all in [misplaced_surveys(&mut random), wrong_versions(&mut random)] {
+    let of_files = [misplaced_surveys(&mut random), wrong_versions(&mut random)];
+    let of_vehicles = [damaged_vehicles(&mut random), wrong_lengths(&mut random)];
+    for all in of_files.into_iter().chain(of_vehicles) {
         for Damaged { survey, vehicle, refusal } in all {
             assert_eq!(twin::judge(&survey, &vehicle), Err(refusal));
         }

@@ -1,0 +1,447 @@
+//! Heavier axles: what the request could be taken for. The right reading is worked a second time here,
+//! and the generated files, yards and conversions must show each wrong one; and what the generator
+//! makes.
+
+use reference::generate::*;
+use reference::layout::*;
+use reference::{convert, reader, yard::vehicles, Refused, Vehicle};
+use std::collections::BTreeMap;
+
+/// What the request could be taken for, and is not.
+#[derive(Clone, Copy, Debug, PartialEq, Eq)]
+enum Wrong {
+    // Of a vehicle.
+    LowerHalf,
+    HalvesExchanged,
+    BytesTurned,
+    HeavyTo60000,
+    HeavyTo65535,
+    HeavyWithoutLimit,
+    LightTo65535,
+    SecondVersionRefused,
+    ThirdVersionTaken,
+    LowByteOfVersion,
+    FourBytesAnAxle,
+    WidthByTheLength,
+    // Of a yard.
+    CutByFour,
+    CutBySix,
+    // Of the converter.
+    OwnVersionTaken,
+    VersionBehindCount,
+    VersionBehindLength,
+    VersionBeforeShortHeader,
+    BackTo65535,
+    BackUnlimited,
+    SeventeenAtTheLast,
+    SeventeenAtNoPlace,
+    SeventeenBeforeTheAxles,
+    FourteenBeforeSeventeen,
+    FourteenFirst,
+    RoomOfTheFile,
+    RoomForMore,
+}
+
+use Wrong::*;
+
+const OF_VEHICLES: [Wrong; 12] = [
+    LowerHalf,
+    HalvesExchanged,
+    BytesTurned,
+    HeavyTo60000,
+    HeavyTo65535,
+    HeavyWithoutLimit,
+    LightTo65535,
+    SecondVersionRefused,
+    ThirdVersionTaken,
+    LowByteOfVersion,
+    FourBytesAnAxle,
+    WidthByTheLength,
+];
+const OF_YARDS: [Wrong; 2] = [CutByFour, CutBySix];
+const OF_CONVERSIONS: [Wrong; 13] = [
+    OwnVersionTaken,
+    VersionBehindCount,
+    VersionBehindLength,
+    VersionBeforeShortHeader,
+    BackTo65535,
+    BackUnlimited,
+    SeventeenAtTheLast,
+    SeventeenAtNoPlace,
+    SeventeenBeforeTheAxles,
+    FourteenBeforeSeventeen,
+    FourteenFirst,
+    RoomOfTheFile,
+    RoomForMore,
+];
+
+/// Class, track, and the weight and distance of each axle.
+type Read = (u8, u16, Vec<(u32, u16)>);
+type Fault = (u64, u64);
+
+fn read_of(vehicle: &Vehicle) -> Read {
+    let axles = vehicle.axles.iter().map(|axle| (axle.weight, axle.distance));
+    (vehicle.class, vehicle.track, axles.collect())
+}
+
+fn word(bytes: &[u8], at: usize) -> u16 {
+    u16::from(bytes[at]) + 256 * u16::from(bytes[at + 1])
+}
+
+/// The version as it is read, or none of those that are allowed.
+fn version(wrong: Option<Wrong>, bytes: &[u8], allowed: &[u16]) -> Option<u16> {
+    let said = match word(bytes, 3) {
+        257 | 258 if wrong == Some(LowByteOfVersion) => word(bytes, 3) - 256,
+        3 if wrong == Some(ThirdVersionTaken) => 2,
+        2 if wrong == Some(SecondVersionRefused) => 0,
+        said => said,
+    };
+    (&bytes[..3] == b"TBV" && allowed.contains(&said)).then_some(said)
+}
+
+fn axle_width(wrong: Option<Wrong>, version: u16, bytes: &[u8]) -> usize {
+    let by_length = (bytes.len() - 9).checked_div(bytes[8].into()).unwrap_or(4);
+    match wrong {
+        Some(FourBytesAnAxle) => 4,
+        Some(WidthByTheLength) if by_length == 4 || by_length == 6 => by_length,
+        _ if version == 2 => 6,
+        _ => 4,
+    }
+}
+
+fn weight(wrong: Option<Wrong>, bytes: &[u8]) -> u32 {
+    let each = bytes.iter().zip([1u64, 1 << 8, 1 << 16, 1 << 24]);
+    let weight: u64 = each.map(|(&byte, worth)| worth * u64::from(byte)).sum();
+    let weight = u32::try_from(weight).expect("four bytes");
+    match wrong {
+        _ if bytes.len() == 2 => weight,
+        Some(LowerHalf) => weight % 65_536,
+        Some(HalvesExchanged) => weight.rotate_left(16),
+        Some(BytesTurned) => weight.swap_bytes(),
+        _ => weight,
+    }
+}
+
+fn greatest(wrong: Option<Wrong>, width: usize) -> u32 {
+    match (width, wrong) {
+        (6, Some(HeavyTo60000)) => 60_000,
+        (6, Some(HeavyTo65535)) | (4, Some(LightTo65535)) => 65_535,
+        (6, Some(HeavyWithoutLimit)) => u32::MAX,
+        (6, _) => 200_000,
+        _ => 60_000,
+    }
+}
+
+/// The header's faults in their turn, by what is wrong.
+fn header(wrong: Option<Wrong>, bytes: &[u8], allowed: &[u16]) -> Result<usize, Fault> {
+    if bytes.len() < 9 {
+        let seen = bytes.len() >= 5 && version(wrong, bytes, allowed).is_none();
+        let early = wrong == Some(VersionBeforeShortHeader) && seen;
+        return Err((if early { 2 } else { 1 }, 0));
+    }
+    let version = version(wrong, bytes, allowed);
+    let width = axle_width(wrong, version.unwrap_or(word(bytes, 3)), bytes);
+    let count = usize::from(bytes[8]);
+    let faults = [
+        (2, version.is_none()),
+        (3, !(1..=16).contains(&count)),
+        (1, bytes.len() != 9 + width * count),
+    ];
+    let order = match wrong {
+        Some(VersionBehindCount) => [1, 0, 2],
+        Some(VersionBehindLength) => [1, 2, 0],
+        _ => [0, 1, 2],
+    };
+    match order.into_iter().find(|&i| faults[i].1) {
+        Some(i) => Err((faults[i].0, 0)),
+        None => Ok(width),
+    }
+}
+
+/// A vehicle read in one wrong way or rightly, where these versions are allowed.
+fn read(wrong: Option<Wrong>, bytes: &[u8], allowed: &[u16]) -> Result<Read, Fault> {
+    let width = header(wrong, bytes, allowed)?;
+    let (class, track) = (bytes[5], word(bytes, 6));
+    if class > 1 || !(100..=300).contains(&track) {
+        return Err((7, 0));
+    }
+    let mut axles = Vec::new();
+    for (place, axle) in (1..).zip(bytes[9..].chunks(width)) {
+        let (weight, distance) = (weight(wrong, &axle[..width - 2]), word(axle, width - 2));
+        let near = if place == 1 { distance == 0 } else { (1..=2000).contains(&distance) };
+        if weight < 1 || weight > greatest(wrong, width) || !near {
+            return Err((7, place));
+        }
+        axles.push((weight, distance));
+    }
+    Ok((class, track, axles))
+}
+
+/// The vehicles of a yard, cut in one wrong way or rightly.
+fn read_yard(wrong: Option<Wrong>, yard: &[u8]) -> Result<Vec<Read>, Fault> {
+    let (&count, mut left) = yard.split_first().ok_or((1, 0))?;
+    if !(1..=32).contains(&count) {
+        return Err((3, 0));
+    }
+    let mut all = Vec::new();
+    for _ in 0..count {
+        let width = match wrong {
+            Some(CutByFour) => 4,
+            Some(CutBySix) => 6,
+            _ if left.len() > 4 && word(left, 3) == 2 => 6,
+            _ => 4,
+        };
+        let own = left.get(8).map_or(left.len(), |&axles| 9 + width * usize::from(axles));
+        let (file, behind) = left.split_at(own.min(left.len()));
+        all.push(read(None, file, &VERSIONS)?);
+        left = behind;
+    }
+    if left.is_empty() {
+        Ok(all)
+    } else {
+        Err((1, 0))
+    }
+}
+
+fn written(read: &Read, version: u16) -> Vec<u8> {
+    let (class, track, axles) = read;
+    let mut bytes = vec![b'T', b'B', b'V', version.to_le_bytes()[0], 0, *class];
+    bytes.extend(track.to_le_bytes());
+    bytes.push(u8::try_from(axles.len()).expect("at most 16 axles"));
+    for (weight, distance) in axles {
+        bytes.extend(&weight.to_le_bytes()[..if version == 2 { 4 } else { 2 }]);
+        bytes.extend(distance.to_le_bytes());
+    }
+    bytes
+}
+
+/// The place of an axle that is too heavy to go back.
+fn too_heavy(wrong: Option<Wrong>, axles: &[(u32, u16)]) -> Option<u64> {
+    let most = match wrong {
+        Some(BackTo65535) => 65_535,
+        Some(BackUnlimited) => u32::MAX,
+        _ => 60_000,
+    };
+    let mut places = (1..).zip(axles).filter(|(_, axle)| axle.0 > most).map(|(place, _)| place);
+    match wrong {
+        Some(SeventeenAtTheLast) => places.last(),
+        Some(SeventeenAtNoPlace) => places.next().map(|_| 0),
+        _ => places.next(),
+    }
+}
+
+/// The axles of a file of version 2 as they stand, whether they are acceptable or not.
+fn raw_axles(file: &[u8]) -> Vec<(u32, u16)> {
+    let axles = file.get(9..).unwrap_or(&[]).chunks_exact(6);
+    axles.map(|axle| (weight(None, &axle[..4]), word(axle, 4))).collect()
+}
+
+/// A conversion in one wrong way or rightly.
+fn converted(wrong: Option<Wrong>, conversion: &Conversion) -> Result<Vec<u8>, Fault> {
+    let Conversion { wanted, file, room } = conversion;
+    let (wanted, room) = (u16::from(*wanted), *room);
+    let own = [3 - wanted, wanted];
+    let allowed = if wrong == Some(OwnVersionTaken) { &own[..] } else { &own[..1] };
+    if wrong == Some(FourteenFirst) {
+        let axles = usize::from(file.get(8).copied().unwrap_or(0));
+        if room < 9 + [4, 6][usize::from(wanted - 1)] * axles {
+            return Err((14, 0));
+        }
+    }
+    if wrong == Some(SeventeenBeforeTheAxles) && header(None, file, &own[..1]).is_ok() {
+        let early = too_heavy(None, &raw_axles(file)).filter(|_| wanted == 1);
+        early.map_or(Ok(()), |place| Err((17, place)))?;
+    }
+    let read = read(wrong, file, allowed)?;
+    let bytes = written(&read, wanted);
+    let least = match wrong {
+        Some(RoomOfTheFile) => file.len(),
+        Some(RoomForMore) => bytes.len() + 1,
+        _ => bytes.len(),
+    };
+    let heavy = too_heavy(wrong, &read.2).filter(|_| wanted == 1).map(|place| (17, place));
+    let short = (room < least).then_some((14, 0));
+    let fault = match wrong {
+        Some(FourteenBeforeSeventeen) => short.or(heavy),
+        _ => heavy.or(short),
+    };
+    fault.map_or(Ok(bytes), Err)
+}
+
+/// How often each wrong reading differs from the right one, which agrees with the reference.
+fn hold<T, A: PartialEq + std::fmt::Debug>(
+    all: &[T],
+    wrongs: &[Wrong],
+    reference: impl Fn(&T) -> A,
+    reading: impl Fn(Option<Wrong>, &T) -> A,
+) {
+    let mut seen = vec![0; wrongs.len()];
+    for (i, one) in all.iter().enumerate() {
+        let answer = reference(one);
+        assert_eq!(reading(None, one), answer, "number {i}");
+        for (seen, &wrong) in seen.iter_mut().zip(wrongs) {
+            *seen += u32::from(reading(Some(wrong), one) != answer);
+        }
+    }
+    println!("{seen:?}");
+    for (seen, wrong) in seen.iter().zip(wrongs) {
+        assert!(*seen > 15, "{wrong:?} is seen {seen} times of {}", all.len());
+    }
+}
+
+fn fault(refused: Refused) -> Fault {
+    (refused.number, refused.place)
+}
+
+/// Vehicle files as the tests of the library have them.
+#[test]
+fn wrong_readings_of_a_vehicle_are_seen() {
+    let mut random = Random::new(0x09ea_1001);
+    let mut files = Vec::new();
+    for round in 0..3000 {
+        files.push(some_damage(&mut random).1);
+        let axles = 1 + round % 16;
+        files.push(vehicle_bytes(&vehicle(&mut random, Spread::Wide, axles)));
+    }
+    for _ in 0..4 {
+        let all = [damaged_vehicles(&mut random), wrong_versions(&mut random)];
+        files.extend(all.into_iter().flatten().map(|damaged| damaged.vehicle));
+        files.extend(wrong_lengths(&mut random).into_iter().map(|damaged| damaged.vehicle));
+    }
+    let reference = |file: &Vec<u8>| reader::vehicle(file).map(|v| read_of(&v)).map_err(fault);
+    hold(&files, &OF_VEHICLES, reference, |wrong, file| read(wrong, file, &VERSIONS));
+}
+
+#[test]
+fn wrong_readings_of_a_yard_are_seen() {
+    let mut random = Random::new(0x09ea_1002);
+    let mut yards = Vec::new();
+    for round in 0..2000 {
+        yards.push(some_yard_damage(&mut random, 6));
+        yards.push(yard_bytes(&yard(&mut random, Spread::Wide, 1 + round % 32, 4)));
+    }
+    let reference = |bytes: &Vec<u8>| {
+        let read = vehicles(bytes).map_err(fault)?;
+        Ok(read.iter().map(read_of).collect::<Vec<Read>>())
+    };
+    hold(&yards, &OF_YARDS, reference, |wrong, yard| read_yard(wrong, yard));
+}
+
+#[test]
+fn wrong_readings_of_a_conversion_are_seen() {
+    let mut random = Random::new(0x09ea_1003);
+    let mut all = Vec::new();
+    for round in 0..2000 {
+        all.push(sound_conversion(&mut random, round));
+        all.push(some_conversion(&mut random));
+    }
+    for _ in 0..4 {
+        let damaged = damaged_conversions(&mut random).into_iter();
+        all.extend(damaged.map(|damaged| damaged.conversion));
+    }
+    let reference = |conversion: &Conversion| {
+        let Conversion { wanted, file, room } = conversion;
+        convert(file, u16::from(*wanted), *room).map_err(fault)
+    };
+    hold(&all, &OF_CONVERSIONS, reference, converted);
+}
+
+/// Each damage of a vehicle that its version makes, and of a conversion, has its number and place.
+#[test]
+fn each_damage_has_its_number_and_place() {
+    const SEED: u64 = 0x09ea_1004;
+    let mut random = Random::new(SEED);
+    let mut seen: BTreeMap<(u8, u64, u64), u32> = BTreeMap::new();
+    for round in 0..4 {
+        for all in [wrong_lengths(&mut random), damaged_vehicles(&mut random)] {
+            for Damaged { survey, vehicle, refusal } in all {
+                let answer = reference::judge(&survey, &vehicle).err();
+                assert_eq!(answer, Some(refusal), "seed {SEED:#x}, round {round}");
+            }
+        }
+        for DamagedConversion { conversion, number, place } in damaged_conversions(&mut random) {
+            let Conversion { wanted, file, room } = &conversion;
+            let answer = convert(file, u16::from(*wanted), *room).map_err(fault);
+            assert_eq!(answer, Err((number, place)), "seed {SEED:#x}, round {round}");
+            *seen.entry((*wanted, number, place)).or_default() += 1;
+        }
+    }
+    for wanted in [1, 2] {
+        // Two ways at each axle, and class and track, in every round.
+        for place in 0..=16 {
+            assert_eq!(seen.get(&(wanted, 7, place)), Some(&8), "7 at {place} to {wanted}");
+        }
+        for place in 1..=16 {
+            let times = (wanted == 1).then_some(&4);
+            assert_eq!(seen.get(&(wanted, 17, place)), times, "17 at {place} to {wanted}");
+        }
+        for (number, least) in [(1, 60), (2, 48), (3, 16), (14, 256)] {
+            let times = seen.get(&(wanted, number, 0)).copied().unwrap_or(0);
+            assert!(times >= least, "{number} to {wanted}: {times} times");
+        }
+    }
+}
+
+/// Sound conversions are taken, in both ways by turns.
+#[test]
+fn sound_conversions_are_taken() {
+    let mut random = Random::new(0x09ea_1005);
+    let mut longer = 0;
+    for round in 0..2000 {
+        let Conversion { wanted, file, room } = sound_conversion(&mut random, round);
+        assert_eq!(usize::from(wanted), round % 2 + 1);
+        let bytes = convert(&file, wanted.into(), room).expect("a sound conversion");
+        assert!(room <= 160, "a buffer of {room} bytes");
+        longer += u32::from(room > bytes.len());
+    }
+    assert!((500..1500).contains(&longer), "{longer} outputs are longer than what is written");
+}
+
+/// Vehicles of both versions, every edge weight among the second's; a fitting one goes back.
+#[test]
+fn vehicles_of_both_versions() {
+    let mut random = Random::new(0x09ea_1006);
+    let (mut versions, mut weights) = ([0; 2], BTreeMap::new());
+    for round in 0..4000 {
+        let spread = if round % 2 == 0 { Spread::Wide } else { Spread::Usual };
+        let words = vehicle(&mut random, spread, 4);
+        let read = reader::vehicle(&vehicle_bytes(&words)).expect("a sound vehicle");
+        versions[usize::from(words.version - 1)] += 1;
+        for (axle, own) in read.axles.iter().zip(&words.axles) {
+            assert_eq!([axle.weight, u32::from(axle.distance)], *own);
+            *weights.entry((words.version, axle.weight)).or_insert(0) += 1;
+        }
+        assert!(fits(&fitting_vehicle(&mut random, spread, 4), LIGHT_AXLES));
+    }
+    assert!(versions.iter().all(|&times| times > 1800), "{versions:?}");
+    for edge in HEAVY_EDGES {
+        assert!(weights.get(&(2, edge)).is_some_and(|&times| times > 100), "{edge} kgf is rare");
+    }
+    assert!(weights.keys().all(|&(version, weight)| version == 2 || weight <= 60_000));
+}
+
+/// A heavier vehicle of each pair of versions: no axle is lighter, and some only version 2 holds.
+#[test]
+fn heavier_vehicles_of_any_versions() {
+    let mut random = Random::new(0x09ea_1007);
+    for versions in VERSIONS.into_iter().flat_map(|one| VERSIONS.map(|other| [one, other])) {
+        let (mut heavier, mut beyond) = (0, 0);
+        for round in 0..500 {
+            let spread = if round % 2 == 0 { Spread::Wide } else { Spread::Usual };
+            let pair = two_vehicles(&mut random, versions, spread, 4, 3);
+            assert_eq!(pair.each_ref().map(|words| words.version), versions);
+            let [first, second] =
+                pair.map(|words| reader::vehicle(&vehicle_bytes(&words)).expect("a sound vehicle"));
+            assert_eq!((first.class, first.track), (second.class, second.track));
+            assert!(second.axles.len() >= first.axles.len());
+            for (one, other) in first.axles.iter().zip(&second.axles) {
+                assert_eq!(one.distance, other.distance);
+                assert!(other.weight >= one.weight);
+                heavier += u32::from(other.weight > one.weight);
+                beyond += u32::from(other.weight > 60_000);
+            }
+        }
+        assert!(heavier > 500, "{versions:?}: {heavier} axles are heavier");
+        assert_eq!(beyond > 200, versions[1] == 2, "{versions:?}: {beyond} above 60,000");
+    }
+}
