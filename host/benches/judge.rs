@@ -4,7 +4,7 @@
 //! `twin AXLES CALLS` it makes so many calls of one of the two and prints nothing.
 
 use reference::generate::*;
-use reference::layout::SPAN;
+use reference::layout::{LIGHT_AXLES, SPAN};
 use reference::twin;
 use std::hint::black_box;
 use std::process::ExitCode;
@@ -47,7 +47,7 @@ fn files(members: usize, axles: usize) -> Files {
     for words in &mut all {
         words[SPAN] = 5000;
     }
-    let mut vehicle = vehicle(&mut random, Spread::Usual, 16);
+    let mut vehicle = vehicle_of(&mut random, LIGHT_AXLES, Spread::Usual, 16);
     vehicle.axles.truncate(axles);
     Files { survey: survey_bytes(&all[..members]), vehicle: vehicle_bytes(&vehicle) }
 }

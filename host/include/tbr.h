@@ -9,7 +9,8 @@
  * overlaps neither file. The functions read the files, write inside the list only, keep no
  * pointer, always return, and share no state: any number of threads may call them.
  *
- * A survey file is of version 1 or 2, a vehicle file of version 1.
+ * A survey file is of version 1 or 2, and so is a vehicle file: in version 1 the weight of an axle
+ * has two bytes, up to 60,000 kgf, in version 2 four, up to 200,000. A vehicle rates alike in both.
  */
 #ifndef TBR_H
 #define TBR_H
@@ -74,8 +75,9 @@ struct tbr_loads tbr_member_loads(const uint8_t *survey, size_t survey_length,
 
 /*
  * Judges the bridge of a survey file for every vehicle of a yard: a byte that says how many they
- * are, 1 to 32, then so many vehicle files joined, each as long as its own byte 8 says (9 bytes and
- * 4 an axle), or all that is left where that is fewer. Any bytes get an answer.
+ * are, 1 to 32, then so many vehicle files joined, each of either version and as long as its own
+ * version and byte 8 say (9 bytes and 4 an axle, in version 2 6 an axle), or all that is left where
+ * that is fewer. Any bytes get an answer.
  *
  * Fills the list: figure, governing place and 1 where the bridge passes, 0 where it does not, of
  * vehicle 1, then of vehicle 2, and so on; entries beyond are kept. Each is what tbr_judge gives

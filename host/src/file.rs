@@ -1,14 +1,14 @@
 //! The files' layout: words of records to bytes and back, and vehicles joined to a yard. Nothing is
 //! checked here; the proved library says which files are taken.
 
-use crate::form::FIRST_VERSION;
+use crate::form::AxleLayout;
 use crate::refusal::Which;
 
 /// The sixteen words of a member: kind, species, l, d, x, h, q, section code, s1 to s6, A, B.
 pub type Member = [u16; 16];
 
 /// Weight and distance of an axle.
-pub type Axle = [u16; 2];
+pub type Axle = [u32; 2];
 
 /// A survey's numbers.
 #[derive(Clone, Debug, PartialEq, Eq)]
@@ -22,6 +22,8 @@ pub struct Survey {
 /// A vehicle's numbers.
 #[derive(Clone, Debug, PartialEq, Eq)]
 pub struct Vehicle {
+    /// 1, or 2 where a weight has four bytes.
+    pub version: u16,
     /// Class and track.
     pub heading: [u16; 2],
     /// Front axle first.
@@ -39,9 +41,6 @@ pub enum Contents {
 
 const SURVEY_HEADER: usize = 6;
 const VEHICLE_HEADER: usize = 9;
-/// Where a vehicle file has its count of axles, and the bytes of each.
-const AXLES_AT: usize = 8;
-const AXLE: usize = 4;
 
 /// A yard holds at most so many vehicles.
 pub const MOST_VEHICLES: u8 = 32;
@@ -66,12 +65,29 @@ pub fn survey(bytes: &[u8]) -> Option<Survey> {
     Some(Survey { version: u16::from_le_bytes(*version), members: members(bytes) })
 }
 
-/// The vehicle that stands in the bytes of a vehicle file, whatever its counts say; None where it
-/// is shorter than its header.
+/// A number from its bytes, the lowest first.
+fn number(bytes: &[u8]) -> u32 {
+    bytes.iter().rev().fold(0, |number, byte| number << 8 | u32::from(*byte))
+}
+
+/// The whole axles behind a header, as this version has them.
+fn axles(bytes: &[u8], version: u16) -> Vec<Axle> {
+    let layout = AxleLayout::of(version);
+    let axle = |axle: &[u8]| {
+        let (weight, distance) = axle.split_at(layout.weight_bytes);
+        [number(weight), number(distance)]
+    };
+    let behind = bytes.get(VEHICLE_HEADER..).unwrap_or_default();
+    behind.chunks_exact(layout.bytes()).map(axle).collect()
+}
+
+/// The vehicle that stands in the bytes of a vehicle file, whatever its count says; None where it is
+/// shorter than its header. A version that no vehicle has is read as the first.
 pub fn vehicle(bytes: &[u8]) -> Option<Vehicle> {
-    let [_, _, _, _, _, class, track @ .., _] = bytes.first_chunk::<VEHICLE_HEADER>()?;
+    let [_, _, _, low, high, class, track @ .., _] = bytes.first_chunk::<VEHICLE_HEADER>()?;
+    let version = u16::from_le_bytes([*low, *high]);
     let heading = [u16::from(*class), u16::from_le_bytes(*track)];
-    Some(Vehicle { heading, axles: records(bytes, VEHICLE_HEADER) })
+    Some(Vehicle { version, heading, axles: axles(bytes, version) })
 }
 
 /// Vehicle files joined to a yard, behind their number; None where that is above what a byte holds.
@@ -81,15 +97,22 @@ pub fn join_yard<T: AsRef<[u8]>>(vehicles: &[T]) -> Option<Vec<u8>> {
     Some(yard)
 }
 
-/// The vehicle files of a yard: as many as its first byte says, each as long as its own count says,
-/// or all that is left where that is fewer. None where there is no such byte, or it says that there
+/// How long a vehicle file is by its own version and count; None where it is shorter than its header.
+fn vehicle_length(bytes: &[u8]) -> Option<usize> {
+    let [_, _, _, low, high, .., axles] = bytes.first_chunk::<VEHICLE_HEADER>()?;
+    let axle = AxleLayout::of(u16::from_le_bytes([*low, *high])).bytes();
+    Some(VEHICLE_HEADER + axle * usize::from(*axles))
+}
+
+/// The vehicle files of a yard: as many as its first byte says, each as long as its own version and
+/// count say, or all that is left where that is fewer. None where there is no such byte, or it says that there
 /// are none or more than a yard holds.
 pub fn split_yard(yard: &[u8]) -> Option<Vec<&[u8]>> {
     let (count, mut left) = yard.split_first()?;
     let mut files = Vec::new();
     for _ in 0..*count {
-        let length = left.get(AXLES_AT).map(|axles| VEHICLE_HEADER + AXLE * usize::from(*axles));
-        let (file, behind) = left.split_at(length.unwrap_or(left.len()).min(left.len()));
+        let length = vehicle_length(left).unwrap_or(left.len());
+        let (file, behind) = left.split_at(length.min(left.len()));
         files.push(file);
         left = behind;
     }
@@ -98,6 +121,14 @@ pub fn split_yard(yard: &[u8]) -> Option<Vec<&[u8]>> {
 
 fn push_words<'a>(bytes: &mut Vec<u8>, words: impl IntoIterator<Item = &'a u16>) {
     bytes.extend(words.into_iter().flat_map(|word| word.to_le_bytes()));
+}
+
+/// The lowest so many bytes of a number, the lowest first; None where the others are not 0.
+fn push_number(bytes: &mut Vec<u8>, number: u32, count: usize) -> Option<()> {
+    let all = number.to_le_bytes();
+    let (kept, beyond) = all.split_at(count);
+    bytes.extend(kept);
+    beyond.iter().all(|byte| *byte == 0).then_some(())
 }
 
 impl Contents {
@@ -113,7 +144,7 @@ impl Contents {
     pub fn version(&self) -> u16 {
         match self {
             Contents::Survey(survey) => survey.version,
-            Contents::Vehicle(_) => FIRST_VERSION,
+            Contents::Vehicle(vehicle) => vehicle.version,
         }
     }
 
@@ -125,7 +156,8 @@ impl Contents {
         }
     }
 
-    /// The file's bytes; None where its count or class is above what a byte holds.
+    /// The file's bytes; None where its count or class is above what a byte holds, or a number of an axle
+    /// above what its bytes do.
     pub fn bytes(&self) -> Option<Vec<u8>> {
         let count = u8::try_from(self.count()).ok()?;
         let mut bytes = self.which().layout().mark.to_vec();
@@ -135,11 +167,15 @@ impl Contents {
                 bytes.push(count);
                 push_words(&mut bytes, members.iter().flatten());
             }
-            Contents::Vehicle(Vehicle { heading: [class, track], axles }) => {
+            Contents::Vehicle(Vehicle { version, heading: [class, track], axles }) => {
                 bytes.push(u8::try_from(*class).ok()?);
                 push_words(&mut bytes, &[*track]);
                 bytes.push(count);
-                push_words(&mut bytes, axles.iter().flatten());
+                let layout = AxleLayout::of(*version);
+                for [weight, distance] in axles {
+                    push_number(&mut bytes, *weight, layout.weight_bytes)?;
+                    push_number(&mut bytes, *distance, layout.bytes() - layout.weight_bytes)?;
+                }
             }
         }
         Some(bytes)

@@ -1,7 +1,9 @@
 //! A refused file, and every refusal number in words.
 
 use crate::file::MOST_VEHICLES;
-use crate::form::{Layout, ALL_SPECIES, FIRST_VERSION, KINDS, ORDER, ORDERED_FROM};
+use crate::form::{
+    AxleLayout, Layout, Value, ALL_SPECIES, FIRST_VERSION, KINDS, ORDER, ORDERED_FROM,
+};
 use std::fmt;
 
 /// Which of the two files.
@@ -30,10 +32,24 @@ pub struct Refusal {
     /// The number: 1 length, 2 mark or version, 3 count, 4 kind, 5 species, 6 section code,
     /// 7 a number outside its range, 8 an unused field that is not 0; 15 the second of two surveys
     /// that is not the first worn as much or more; 16 a member that stands before its predecessor in
-    /// the order of version 2.
+    /// the order of version 2. Of a vehicle that is to be written in another version: 2 it has that
+    /// version already, 14 the output is too short, 17 a weight that version 1 cannot hold.
     pub number: u64,
     /// The member or axle at fault, from 1; 0 where the fault is in none of them.
     pub place: u64,
+}
+
+/// An output that is too short for what is to be written.
+pub(crate) const TOO_SHORT: u64 = 14;
+/// A weight that the first version of a vehicle cannot hold.
+pub(crate) const TOO_HEAVY: u64 = 17;
+
+/// The greatest weight of an axle in the first version of a vehicle.
+fn light_weight() -> String {
+    match AxleLayout::of(FIRST_VERSION).other[0].value {
+        Value::Number(limits) => format!("{} {}", limits.greatest, limits.unit),
+        Value::Word(_) => String::new(),
+    }
 }
 
 const NO_WORDS: &str = "a refusal number that has no words here";
@@ -74,6 +90,10 @@ impl Refusal {
                 "it stands behind a member that it must come before; from version {ORDERED_FROM} \
                  members stand {ORDER}"
             ),
+            (TOO_HEAVY, Which::Vehicle) => format!(
+                "the weight is above {}, and version {FIRST_VERSION} holds no greater",
+                light_weight()
+            ),
             _ => self.fixed_meaning().to_string(),
         }
     }
@@ -81,7 +101,12 @@ impl Refusal {
     /// The same of the numbers whose words name nothing of the tables.
     fn fixed_meaning(&self) -> &'static str {
         match (self.number, self.file) {
-            (1, _) => "its length is not what its count says, or it is too short to hold a count",
+            (1, Which::Survey) => {
+                "its length is not what its count says, or it is too short to hold a count"
+            }
+            (1, Which::Vehicle) => {
+                "its length is not what its version and count say, or it is too short to hold them"
+            }
             (6, _) => "the section code does not suit the kind",
             (7, Which::Survey) => "a number is outside its range, or A of a joint is above B",
             (7, Which::Vehicle) if self.place == 0 => "the class or the track is outside its range",
@@ -92,6 +117,7 @@ impl Refusal {
                 "a field that the kind or the section does not use is not 0, \
                  or a beam in bending has lost area"
             }
+            (TOO_SHORT, Which::Vehicle) => "the output is too short for the file in the other version",
             (15, Which::Survey) if self.place == 0 => {
                 "the two surveys have different counts of members"
             }

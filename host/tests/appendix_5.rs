@@ -45,7 +45,7 @@ const ROW: [(u16, u64); 35] = [
 
 /// The tractor taken as two axles 310 cm apart.
 fn k_700() -> VehicleWords {
-    VehicleWords { class: 1, track: 190, axles: vec![[4400, 0], [7700, 310]] }
+    VehicleWords { version: 1, class: 1, track: 190, axles: vec![[4400, 0], [7700, 310]] }
 }
 
 /// A stringer of this span; its permitted load does not matter here.

@@ -40,7 +40,7 @@ fn with(mut words: Words, changes: &[(usize, u16)]) -> Words {
 
 /// An axle of 1 kgf.
 fn vehicle(class: u8, track: u16) -> Vec<u8> {
-    vehicle_bytes(&VehicleWords { class, track, axles: vec![[1, 0]] })
+    vehicle_bytes(&VehicleWords { version: 1, class, track, axles: vec![[1, 0]] })
 }
 
 /// The members' permitted loads.
@@ -305,7 +305,7 @@ fn every_log_and_rot() {
 #[test]
 fn the_vehicle_load_is_that_of_a_stringer() {
     let axles = vec![[2000, 0], [4000, 300], [4100, 130]];
-    let vehicle = vehicle_bytes(&VehicleWords { class: 0, track: 190, axles });
+    let vehicle = vehicle_bytes(&VehicleWords { version: 1, class: 0, track: 190, axles });
     for span in [100, 101, 500, 777, 1000, 4999, 5000] {
         let close = of_logs(close_stringer(span, 60, [2, 10, 20, 1]), [28, 0, 1]);
         let deck = [(BOARDS, 0), (BOARD_THICKNESS, 0), (BOARD_WIDTH, 0), (DECK_ROT, 0)];

@@ -27,7 +27,7 @@ fn cross_beam(crescent: Crescent) -> Words {
 
 /// Class 0, track 190, an axle of 1 kgf.
 fn vehicle() -> Vec<u8> {
-    vehicle_bytes(&VehicleWords { class: 0, track: 190, axles: vec![[1, 0]] })
+    vehicle_bytes(&VehicleWords { version: 1, class: 0, track: 190, axles: vec![[1, 0]] })
 }
 
 /// The members' permitted loads.

@@ -289,7 +289,7 @@ fn a_member_added_in_the_middle() {
     beam[..11].copy_from_slice(&[2, 1, 300, 0, 200, 0, 100, 1, 24, 0, 1]);
     let (mut worn, mut added) = (stringer, stringer);
     (worn[S2], added[SPAN]) = (1, 501);
-    let vehicle = VehicleWords { class: 0, track: 190, axles: vec![[1500, 0], [3000, 370]] };
+    let vehicle = VehicleWords { version: 1, class: 0, track: 190, axles: vec![[1500, 0], [3000, 370]] };
     let permitted = |version, records: &[Words]| {
         let bridge = judged_file(&survey_bytes_of(version, records), &vehicle, 0);
         bridge.members.iter().map(|member| member.permitted).collect::<Vec<_>>()
@@ -332,7 +332,7 @@ fn deeper_deck_rot_may_bear_more() {
     [words[KIND], words[SPECIES], words[SPAN], words[SPACING]] = [CLOSE_STRINGER, 8, 1009, 89];
     [words[DEAD_LOAD], words[SECTION], words[S1], words[S2], words[S3]] = [100, 1, 31, 7, 3];
     [words[BOARDS], words[BOARD_THICKNESS], words[BOARD_WIDTH]] = [3, 15, 44];
-    let vehicle = VehicleWords { class: 0, track: 190, axles: vec![[1500, 0], [3000, 370]] };
+    let vehicle = VehicleWords { version: 1, class: 0, track: 190, axles: vec![[1500, 0], [3000, 370]] };
     let figures = [9, 10].map(|rot| {
         words[DECK_ROT] = rot;
         judged(&[words], &vehicle, 0).judgement.figure

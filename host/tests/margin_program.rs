@@ -6,6 +6,7 @@ mod common;
 use common::scripts::*;
 use common::seed;
 use reference::generate::*;
+use reference::layout::heaviest;
 use reference::script::Script;
 use std::collections::BTreeMap;
 
@@ -29,12 +30,12 @@ fn bridge(random: &mut Random) -> (Vec<u8>, VehicleWords) {
 }
 
 /// The vehicle with up to so much more or less on an axle.
-fn like(random: &mut Random, vehicle: &VehicleWords, by: u16) -> VehicleWords {
+fn like(random: &mut Random, vehicle: &VehicleWords, by: u32) -> VehicleWords {
     let mut like = vehicle.clone();
     let axle = random.below(like.axles.len());
     let weight = &mut like.axles[axle][0];
-    *weight =
-        random.between(weight.saturating_sub(by).max(1), weight.saturating_add(by).min(60000));
+    let greatest = heaviest(vehicle.version).min(*weight + by);
+    *weight = random.large(weight.saturating_sub(by).max(1), greatest);
     like
 }
 

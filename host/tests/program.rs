@@ -31,7 +31,7 @@ fn the_last_line_names_the_member_with_the_least_margin() {
     let [mut stringer, mut beam] = [[0; 16]; 2];
     stringer[..11].copy_from_slice(&[1, 1, 500, 140, 0, 0, 100, 1, 28, 0, 1]);
     beam[..11].copy_from_slice(&[2, 1, 300, 0, 200, 0, 100, 1, 24, 0, 1]);
-    let vehicle = VehicleWords { class: 0, track: 190, axles: vec![[4300, 0]] };
+    let vehicle = VehicleWords { version: 1, class: 0, track: 190, axles: vec![[4300, 0]] };
     let input = [survey_bytes(&[stringer, beam]), vehicle_bytes(&vehicle)].concat();
     let lines = "1 1720 1720 pass\n2 1939 2150 refuse\nbridge 1720 2 refuse\n";
     assert_eq!((printed(&input).as_str(), lines::printed(&input).as_str()), (lines, lines));

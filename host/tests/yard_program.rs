@@ -6,13 +6,14 @@ mod common;
 use common::scripts::*;
 use common::seed;
 use reference::generate::*;
+use reference::layout::heaviest;
 use reference::script::{Script, SPACE};
 use std::collections::BTreeMap;
 
 const SCRIPTS: u64 = 6;
 
 /// A round of calls is shorter than this: two files, ten yards and what is between them.
-const LONGEST_ROUND: usize = 30_000;
+const LONGEST_ROUND: usize = 40_000;
 
 /// A sound yard or a damaged one, with a list that holds it, just not, or much more.
 fn judge_yard(random: &mut Random, script: &mut Script) {
@@ -109,7 +110,7 @@ fn verdicts_turn_at_the_limit() {
             let mut vehicle = limit.clone();
             let axle = random.below(vehicle.axles.len());
             let weight = &mut vehicle.axles[axle][0];
-            *weight = (*weight + random.between(0, 2)).clamp(2, 60001) - 1;
+            *weight = (*weight + random.large(0, 2)).clamp(2, heaviest(vehicle.version) + 1) - 1;
             vehicles.push(vehicle);
         }
         script.survey(&survey);

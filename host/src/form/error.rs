@@ -74,29 +74,29 @@ pub enum Problem {
     /// The number stands for none of the words.
     NoCode {
         /// The number.
-        found: u16,
+        found: u32,
         /// The words, each with its number.
         allowed: Vec<(&'static str, u16)>,
     },
     /// The number is not below that of another field.
     NotBelow {
         /// The number.
-        found: u16,
+        found: u32,
         /// The other field's name.
         other: &'static str,
         /// The other field's number.
-        limit: u16,
+        limit: u32,
         /// The unit of both.
         unit: &'static str,
     },
     /// The number is above that of another field.
     Above {
         /// The number.
-        found: u16,
+        found: u32,
         /// The other field's name.
         other: &'static str,
         /// The other field's number.
-        limit: u16,
+        limit: u32,
         /// The unit of both.
         unit: &'static str,
     },
@@ -136,12 +136,19 @@ pub(super) fn with_unit(number: impl fmt::Display, unit: &str) -> String {
     format!("{number} {unit}").trim_end().to_string()
 }
 
-/// The limits, or the one number that is taken.
+/// The limits, or the one number that is taken; and the later version that takes what is found.
 fn outside(f: &mut fmt::Formatter, found: &str, limits: &Limits) -> fmt::Result {
     let greatest = with_unit(limits.greatest, limits.unit);
-    match limits.least == limits.greatest {
-        true => write!(f, "must be {greatest}, not {found}"),
-        false => write!(f, "{found} is outside {} to {greatest}", limits.least),
+    if limits.least == limits.greatest {
+        return write!(f, "must be {greatest}, not {found}");
+    }
+    write!(f, "{found} is outside {} to {greatest}", limits.least)?;
+    match found.parse().ok().and_then(|number| limits.later_for(number)) {
+        Some(later) => {
+            let greatest = with_unit(later.greatest, limits.unit);
+            write!(f, "; version {} takes up to {greatest}", later.version)
+        }
+        None => Ok(()),
     }
 }
 

@@ -6,7 +6,7 @@ use super::order;
 use super::tables::*;
 use super::write::{kind_of, section_of};
 use crate::file::{self, Axle, Member};
-use crate::refusal::{Refusal, Which};
+use crate::refusal::{Refusal, Which, TOO_HEAVY, TOO_SHORT};
 
 /// The name of a member's field with the letter of the layout.
 fn named(field: &Field) -> String {
@@ -19,7 +19,7 @@ fn named(field: &Field) -> String {
 /// What is wrong with these fields of a record, each alone and beside another.
 fn wrong<'a>(
     fields: impl IntoIterator<Item = &'a Field>,
-    words: &[u16],
+    words: &[impl Copy + Into<u32>],
     name: impl Fn(&Field) -> String,
 ) -> Vec<FieldFault> {
     let problem = |field: &Field| field.problem(field.of(words)?).or_else(|| field.misfit(words));
@@ -63,6 +63,7 @@ fn unused(kind: &Kind, section: &Section, words: &Member) -> Vec<FieldFault> {
 }
 
 fn no_kind(found: u16) -> FieldFault {
+    let found = found.into();
     let allowed = KINDS.iter().map(|kind| (kind.name, kind.code)).collect();
     FieldFault { field: "kind".to_string(), problem: Problem::NoCode { found, allowed } }
 }
@@ -102,21 +103,30 @@ fn before_predecessor(bytes: &[u8], place: u64) -> Option<FieldFault> {
 enum Record {
     Member(Member),
     Heading([u16; 2]),
-    FirstAxle(Axle),
-    Axle(Axle),
+    Axle(&'static [Field; 2], Axle),
 }
 
-/// None for a refusal of the length, the mark or the count: those are the numbers below 4.
+/// An axle with what its fields may be: in its own version, and where it is too heavy to go back to the
+/// first, in that one.
+fn axle(bytes: &[u8], number: u64, place: usize) -> Option<Record> {
+    let vehicle = file::vehicle(bytes)?;
+    let version = if number == TOO_HEAVY { FIRST_VERSION } else { vehicle.version };
+    let words = *vehicle.axles.get(place.checked_sub(1)?)?;
+    Some(Record::Axle(AxleLayout::of(version).fields(place), words))
+}
+
+/// None for a refusal of the length, the mark or the count, which are the numbers below 4, or of an
+/// output that is too short.
 fn record(bytes: &[u8], refusal: &Refusal) -> Option<Record> {
-    let place = usize::try_from(refusal.place).ok().filter(|_| refusal.number >= 4)?;
+    let of_a_record = refusal.number >= 4 && refusal.number != TOO_SHORT;
+    let place = usize::try_from(refusal.place).ok().filter(|_| of_a_record)?;
     match (refusal.file, place) {
         (Which::Survey, 0) => None,
         (Which::Survey, _) => {
             file::members(bytes).get(place - 1).map(|words| Record::Member(*words))
         }
         (Which::Vehicle, 0) => Some(Record::Heading(file::vehicle(bytes)?.heading)),
-        (Which::Vehicle, 1) => Some(Record::FirstAxle(*file::vehicle(bytes)?.axles.first()?)),
-        (Which::Vehicle, _) => Some(Record::Axle(*file::vehicle(bytes)?.axles.get(place - 1)?)),
+        (Which::Vehicle, _) => axle(bytes, refusal.number, place),
     }
 }
 
@@ -130,21 +140,22 @@ pub fn explain(bytes: &[u8], refusal: &Refusal) -> Vec<FieldFault> {
         }
         Some(Record::Member(words)) => member(&words, refusal.number).unwrap_or_default(),
         Some(Record::Heading(words)) => wrong(&HEADING, &words, name),
-        Some(Record::FirstAxle(words)) => wrong(&FIRST_AXLE, &words, name),
-        Some(Record::Axle(words)) => wrong(&AXLE, &words, name),
+        Some(Record::Axle(fields, words)) => wrong(fields, &words, name),
         None => Vec::new(),
     }
 }
 
 /// All numbers of the record that the refusal is about, by the letters of the layout or by name.
-pub fn numbers(bytes: &[u8], refusal: &Refusal) -> Vec<(&'static str, u16)> {
-    let by_name = |fields: [Field; 2], words: [u16; 2]| {
+pub fn numbers(bytes: &[u8], refusal: &Refusal) -> Vec<(&'static str, u32)> {
+    let by_name = |fields: &[Field; 2], words: [u32; 2]| {
         fields.iter().map(|field| field.name).zip(words).collect()
     };
     match record(bytes, refusal) {
-        Some(Record::Member(words)) => MEMBER_LETTERS.into_iter().zip(words).collect(),
-        Some(Record::Heading(words)) => by_name(HEADING, words),
-        Some(Record::FirstAxle(words) | Record::Axle(words)) => by_name(AXLE, words),
+        Some(Record::Member(words)) => {
+            MEMBER_LETTERS.into_iter().zip(words.map(u32::from)).collect()
+        }
+        Some(Record::Heading(words)) => by_name(&HEADING, words.map(u32::from)),
+        Some(Record::Axle(fields, words)) => by_name(fields, words),
         None => Vec::new(),
     }
 }

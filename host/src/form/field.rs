@@ -29,17 +29,33 @@ pub enum Value {
 #[derive(Clone, Copy, Debug, PartialEq, Eq)]
 pub struct Limits {
     /// The least that is taken.
-    pub least: u16,
+    pub least: u32,
     /// The greatest that is taken.
-    pub greatest: u16,
+    pub greatest: u32,
     /// The unit, as it is written behind the number.
     pub unit: &'static str,
+    /// A later version of the file that takes more.
+    pub later: Option<Later>,
+}
+
+/// What a later version of the file takes.
+#[derive(Clone, Copy, Debug, PartialEq, Eq)]
+pub struct Later {
+    /// The version.
+    pub version: u16,
+    /// The greatest that is taken there.
+    pub greatest: u32,
 }
 
 impl Limits {
     /// Is the number within them?
-    pub fn hold(&self, number: u16) -> bool {
+    pub fn hold(&self, number: u32) -> bool {
         (self.least..=self.greatest).contains(&number)
+    }
+
+    /// The later version that takes this number, where these limits do not for its being too great.
+    pub fn later_for(&self, number: u32) -> Option<Later> {
+        self.later.filter(|later| (self.greatest + 1..=later.greatest).contains(&number))
     }
 }
 
@@ -56,11 +72,12 @@ pub enum Within {
 pub const fn number(
     name: &'static str,
     word: usize,
-    least: u16,
-    greatest: u16,
+    least: u32,
+    greatest: u32,
     unit: &'static str,
 ) -> Field {
-    Field { name, word, value: Value::Number(Limits { least, greatest, unit }), within: None }
+    let limits = Limits { least, greatest, unit, later: None };
+    Field { name, word, value: Value::Number(limits), within: None }
 }
 
 /// A field of words.
@@ -74,9 +91,21 @@ impl Field {
         Field { within: Some(within), ..self }
     }
 
-    /// Its number in a record; None where the record is too short to hold it.
-    pub fn of(&self, words: &[u16]) -> Option<u16> {
-        words.get(self.word).copied()
+    /// The same number field, of which a later version of the file takes more.
+    pub(super) const fn until(self, later: Later) -> Field {
+        match self.value {
+            Value::Number(limits) => {
+                let limits = Limits { later: Some(later), ..limits };
+                Field { value: Value::Number(limits), ..self }
+            }
+            Value::Word(_) => self,
+        }
+    }
+
+    /// Its number in a record; None where the record is too short to hold it. Most records hold words
+    /// of two bytes; the weight of an axle may have four.
+    pub fn of<N: Copy + Into<u32>>(&self, words: &[N]) -> Option<u32> {
+        words.get(self.word).map(|number| (*number).into())
     }
 
     /// Its unit; none for words and plain counts.
@@ -88,21 +117,21 @@ impl Field {
     }
 
     /// What is wrong with this number in the field, whatever the other fields hold.
-    pub fn problem(&self, found: u16) -> Option<Problem> {
+    pub fn problem(&self, found: u32) -> Option<Problem> {
         match self.value {
             Value::Number(limits) => {
                 let outside = || Problem::Outside { found: found.to_string(), limits };
                 (!limits.hold(found)).then(outside)
             }
             Value::Word(all) => {
-                let known = all.iter().any(|(_, number)| *number == found);
+                let known = all.iter().any(|(_, number)| u32::from(*number) == found);
                 (!known).then(|| Problem::NoCode { found, allowed: all.to_vec() })
             }
         }
     }
 
     /// What is wrong with it beside the other field that limits it, where both are sound alone.
-    pub fn misfit(&self, words: &[u16]) -> Option<Problem> {
+    pub fn misfit<N: Copy + Into<u32>>(&self, words: &[N]) -> Option<Problem> {
         let (Within::Below(other) | Within::AtMost(other)) = self.within?;
         let [found, limit] = [self, other]
             .map(|field| field.of(words).filter(|number| field.problem(*number).is_none()));

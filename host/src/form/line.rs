@@ -32,7 +32,7 @@ impl Line {
     }
 
     /// The one value of a field in this line.
-    pub fn value(&self, field: &Field) -> Result<u16, TextError> {
+    pub fn value(&self, field: &Field) -> Result<u32, TextError> {
         let mut found = self.clauses.iter().filter_map(|clause| after_name(clause, field));
         let value = match (found.next(), found.next()) {
             (None, _) => Err(Problem::Missing),
@@ -54,12 +54,16 @@ impl Line {
 
     /// The values of the fields go to their words; a field that has none stays 0. All faults come
     /// back: of the fields alone, then of two beside each other.
-    pub fn fill(&self, fields: &[&Field], words: &mut [u16]) -> Vec<TextError> {
+    pub fn fill<N: Copy + Into<u32> + TryFrom<u32>>(
+        &self,
+        fields: &[&Field],
+        words: &mut [N],
+    ) -> Vec<TextError> {
         let mut faults = Vec::new();
         for field in fields {
-            match (self.value(field), words.get_mut(field.word)) {
-                (Ok(value), Some(word)) => *word = value,
-                (Ok(_), None) => {}
+            match (self.value(field).map(N::try_from), words.get_mut(field.word)) {
+                (Ok(Ok(value)), Some(word)) => *word = value,
+                (Ok(_), _) => {}
                 (Err(fault), _) => faults.push(fault),
             }
         }
@@ -78,7 +82,7 @@ fn after_name<'a>(clause: &'a str, field: &Field) -> Option<&'a str> {
 }
 
 /// A whole number within its limits, and its unit.
-fn number(text: &str, limits: Limits) -> Result<u16, Problem> {
+fn number(text: &str, limits: Limits) -> Result<u32, Problem> {
     let (digits, unit) = text.split_once(' ').unwrap_or((text, ""));
     let found = digits.to_string();
     if digits.is_empty() || !digits.bytes().all(|byte| byte.is_ascii_digit()) {
@@ -94,9 +98,9 @@ fn number(text: &str, limits: Limits) -> Result<u16, Problem> {
 }
 
 /// The number of one of these words.
-fn one_of(text: &str, all: &[(&'static str, u16)]) -> Result<u16, Problem> {
+fn one_of(text: &str, all: &[(&'static str, u16)]) -> Result<u32, Problem> {
     match all.iter().find(|(word, _)| *word == text) {
-        Some(&(_, number)) => Ok(number),
+        Some(&(_, number)) => Ok(number.into()),
         None => {
             let allowed = all.iter().map(|(word, _)| *word).collect();
             Err(Problem::NotOneOf { found: text.to_string(), allowed })

@@ -13,7 +13,8 @@
 //! ```
 //! A survey is of version 1 with the heading `survey`, of version 2 with `survey, version 2`. From
 //! version 2 on its members stand in one order: by kind, then span or truss spacing, then spacing,
-//! each rising, and equals as they come.
+//! each rising, and equals as they come. A vehicle is of version 1 with the heading `vehicle, ..`, of
+//! version 2 with `vehicle, version 2, ..`, whose axles may weigh more.
 //!
 //! `#` opens a comment; blank lines are passed over; the order within a line is free after its
 //! first words. A byte order mark, either end of line, any run of blanks and tabs, and a comma at
@@ -31,12 +32,12 @@ mod write;
 
 pub use error::{FieldFault, Problem, TextError};
 pub use explain::{explain, numbers};
-pub use field::{Field, Limits, Value, Within};
+pub use field::{Field, Later, Limits, Value, Within};
 pub use look::{look, Look};
 pub use order::ORDER;
 pub use read::read;
 pub use tables::{
-    Kind, Layout, Section, ALL_SPECIES, AXLE, FIRST_AXLE, FIRST_VERSION, HEADING, KINDS,
-    ORDERED_FROM, SECTIONS, VERSION,
+    AxleLayout, Kind, Layout, Section, ALL_SPECIES, AXLES, FIRST_VERSION, HEADING, KINDS,
+    ORDERED_FROM, SECTIONS,
 };
 pub use write::{clause, kind_of, section_of, write};

@@ -60,7 +60,8 @@ fn which(lines: &[Cut]) -> Option<Which> {
 /// for, and those of every section that suits are let pass.
 fn section_fields(line: &Line, kind: &Kind) -> (&'static [Field], Vec<&'static Field>) {
     let Some(chosen) = kind.section() else { return (&[], Vec::new()) };
-    if let Some(section) = line.value(chosen).ok().and_then(Section::of) {
+    let code = line.value(chosen).ok().and_then(|code| u16::try_from(code).ok());
+    if let Some(section) = code.and_then(Section::of) {
         return (section.fields_in(kind), Vec::new());
     }
     let Value::Word(codes) = chosen.value else { return (&[], Vec::new()) };
@@ -83,13 +84,16 @@ fn member(line: &Line, faults: &mut Vec<TextError>) -> Member {
     words
 }
 
-/// The version in a survey's heading, which may be left out. Where it is wrong, no order is asked.
-fn version(line: &Line, faults: &mut Vec<TextError>) -> u16 {
-    faults.extend(line.strangers(&[&VERSION]));
-    line.value(&VERSION).unwrap_or_else(|fault| {
-        faults.extend(Some(fault).filter(|fault| fault.problem != Problem::Missing));
-        FIRST_VERSION
-    })
+/// The version in a heading, which may be left out: it is the first then. None where it is wrong.
+fn version(line: &Line, which: Which, faults: &mut Vec<TextError>) -> Option<u16> {
+    match line.value(&which.layout().version()) {
+        Ok(version) => u16::try_from(version).ok(),
+        Err(fault) if fault.problem == Problem::Missing => Some(FIRST_VERSION),
+        Err(fault) => {
+            faults.push(fault);
+            None
+        }
+    }
 }
 
 /// The members, each with its line, that stand behind one that they come before. A line with
@@ -107,13 +111,18 @@ fn out_of_order(members: &[(usize, Member)], faults: &[TextError]) -> Vec<TextEr
     sound.windows(2).filter_map(fault).collect()
 }
 
+/// Where the version is wrong, no order is asked.
 fn survey(
     heading: Option<&Line>,
     number: usize,
     lines: &[Cut],
     faults: &mut Vec<TextError>,
 ) -> Survey {
-    let version = heading.map_or(FIRST_VERSION, |line| version(line, faults));
+    let said = heading.and_then(|line| {
+        faults.extend(line.strangers(&[&Which::Survey.layout().version()]));
+        version(line, Which::Survey, faults)
+    });
+    let version = said.unwrap_or(FIRST_VERSION);
     let read = |_, line: &Line, faults: &mut Vec<TextError>| (line.number, member(line, faults));
     let members = records((Which::Survey, number), lines, faults, read);
     if version >= ORDERED_FROM {
@@ -122,12 +131,13 @@ fn survey(
     Survey { version, members: members.into_iter().map(|(_, words)| words).collect() }
 }
 
-/// The two numbers of a vehicle's heading or of an axle.
-fn pair(line: &Line, fields: &[Field; 2], faults: &mut Vec<TextError>) -> [u16; 2] {
-    let mut words = [0; 2];
-    faults.extend(line.strangers(&fields.each_ref()));
-    faults.extend(line.fill(&fields.each_ref(), &mut words));
-    words
+/// Version, class and track.
+fn vehicle_heading(line: &Line, faults: &mut Vec<TextError>) -> (Option<u16>, [u16; 2]) {
+    let (mut words, [class, track]) = ([0; 2], &HEADING);
+    faults.extend(line.strangers(&[&Which::Vehicle.layout().version(), class, track]));
+    let version = version(line, Which::Vehicle, faults);
+    faults.extend(line.fill(&[class, track], &mut words));
+    (version, words)
 }
 
 fn axle(line: &Line, fields: &[Field; 2], faults: &mut Vec<TextError>) -> Axle {
@@ -136,7 +146,28 @@ fn axle(line: &Line, fields: &[Field; 2], faults: &mut Vec<TextError>) -> Axle {
         faults.push(line.fault("axle", Problem::NotOneOf { found, allowed: vec!["axle"] }));
         return [0; 2];
     }
-    pair(line, fields, faults)
+    let mut words = [0; 2];
+    faults.extend(line.strangers(&fields.each_ref()));
+    faults.extend(line.fill(&fields.each_ref(), &mut words));
+    words
+}
+
+/// Where the version is wrong, an axle may weigh what the last one takes. None without a heading.
+fn vehicle(
+    heading: Option<&Line>,
+    number: usize,
+    lines: &[Cut],
+    faults: &mut Vec<TextError>,
+) -> Option<Vehicle> {
+    let heading = heading.map(|line| vehicle_heading(line, faults));
+    let last = Which::Vehicle.layout().last_version;
+    let version = heading.and_then(|(version, _)| version).unwrap_or(last);
+    let layout = AxleLayout::of(version);
+    let read = |place, line: &Line, faults: &mut Vec<TextError>| {
+        axle(line, layout.fields(place + 1), faults)
+    };
+    let axles = records((Which::Vehicle, number), lines, faults, read);
+    heading.map(|(_, heading)| Vehicle { version, heading, axles })
 }
 
 /// The lines after the heading, at least one and at most as many as the file holds, each read by
@@ -198,14 +229,7 @@ fn contents(lines: &[Cut], faults: &mut Vec<TextError>) -> Option<Contents> {
     let number = first.map_or(1, |line| line.number);
     match which(lines) {
         Some(Which::Survey) => Some(Contents::Survey(survey(first, number, rest, faults))),
-        Some(Which::Vehicle) => {
-            let words = first.map(|line| pair(line, &HEADING, faults));
-            let read = |place, line: &Line, faults: &mut Vec<TextError>| {
-                axle(line, if place == 0 { &FIRST_AXLE } else { &AXLE }, faults)
-            };
-            let axles = records((Which::Vehicle, number), rest, faults, read);
-            Some(Contents::Vehicle(Vehicle { heading: words?, axles }))
-        }
+        Some(Which::Vehicle) => vehicle(first, number, rest, faults).map(Contents::Vehicle),
         None => {
             faults.extend(rest.iter().filter_map(|line| line.as_ref().err().cloned()));
             None

@@ -1,7 +1,7 @@
 //! The one place for what the files may hold: marks, versions and counts, the fields of each kind
 //! of member, of each section and of a vehicle, with their limits.
 
-use super::field::{number, words, Field, Within};
+use super::field::{number, words, Field, Later, Within};
 use crate::refusal::Which;
 
 /// What a file opens with, and its records.
@@ -32,12 +32,17 @@ pub const FIRST_VERSION: u16 = 1;
 /// From this version on the members of a survey stand in one order.
 pub const ORDERED_FROM: u16 = 2;
 
-const SURVEY: Layout = Layout { mark: b"TBR", last_version: 2, record: "member", most: 64 };
+const SURVEY: Layout =
+    Layout { mark: b"TBR", last_version: ORDERED_FROM, record: "member", most: 64 };
 const VEHICLE: Layout =
-    Layout { mark: b"TBV", last_version: FIRST_VERSION, record: "axle", most: 16 };
+    Layout { mark: b"TBV", last_version: HEAVY.version, record: "axle", most: 16 };
 
-/// The version in the heading of a survey's text form; one without it is of the first version.
-pub const VERSION: Field = number("version", 0, FIRST_VERSION, SURVEY.last_version, "");
+impl Layout {
+    /// The version in the heading of the text form; one without it is of the first version.
+    pub fn version(&self) -> Field {
+        number("version", 0, FIRST_VERSION.into(), self.last_version.into(), "")
+    }
+}
 
 /// A kind of member: its term, its number, and its fields, the section's own excepted.
 #[derive(Debug)]
@@ -249,10 +254,56 @@ pub const HEADING: [Field; 2] = [
     number("track", 1, 100, 300, "cm"),
 ];
 
-const WEIGHT: Field = number("weight", 0, 1, 60000, "kgf");
+/// An axle in one version of a vehicle file.
+#[derive(Debug)]
+pub struct AxleLayout {
+    /// The version.
+    pub version: u16,
+    /// The bytes of a weight; a distance has two.
+    pub weight_bytes: usize,
+    /// The fields of the first axle: it has no axle in front.
+    pub first: [Field; 2],
+    /// Those of the others: the distance is from the axle in front.
+    pub other: [Field; 2],
+}
 
-/// The first axle: it has no axle in front.
-pub const FIRST_AXLE: [Field; 2] = [WEIGHT, number("distance", 1, 0, 0, "cm")];
+/// An axle whose weight has so many bytes.
+const fn axle(version: u16, weight_bytes: usize, weight: Field) -> AxleLayout {
+    AxleLayout {
+        version,
+        weight_bytes,
+        first: [weight, number("distance", 1, 0, 0, "cm")],
+        other: [weight, number("distance", 1, 1, 2000, "cm")],
+    }
+}
 
-/// The others: the distance is from the axle in front.
-pub const AXLE: [Field; 2] = [WEIGHT, number("distance", 1, 1, 2000, "cm")];
+const HEAVIEST: u32 = 200_000;
+const HEAVY_WEIGHT: Field = number("weight", 0, 1, HEAVIEST, "kgf");
+const LIGHT_WEIGHT: Field = number("weight", 0, 1, 60_000, "kgf")
+    .until(Later { version: HEAVY.version, greatest: HEAVIEST });
+const HEAVY: AxleLayout = axle(2, 4, HEAVY_WEIGHT);
+const LIGHT: AxleLayout = axle(FIRST_VERSION, 2, LIGHT_WEIGHT);
+
+/// The axles of a vehicle by version.
+pub static AXLES: [AxleLayout; 2] = [LIGHT, HEAVY];
+
+impl AxleLayout {
+    /// The axles of this version. A version that no vehicle has is read as the first.
+    pub fn of(version: u16) -> &'static AxleLayout {
+        AXLES.iter().find(|axle| axle.version == version).unwrap_or(&AXLES[0])
+    }
+
+    /// The bytes of an axle: weight and distance.
+    pub fn bytes(&self) -> usize {
+        self.weight_bytes + 2
+    }
+
+    /// The fields of the axle at this place, from 1.
+    pub fn fields(&self, place: usize) -> &[Field; 2] {
+        if place == 1 {
+            &self.first
+        } else {
+            &self.other
+        }
+    }
+}

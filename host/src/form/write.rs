@@ -3,17 +3,18 @@
 use super::field::{Field, Value};
 use super::tables::*;
 use crate::file::{Contents, Member, Survey, Vehicle};
+use crate::refusal::Which;
 
 /// A field with its value: name, value, unit. None where the record is too short for it, or where
 /// its number has no word.
-pub fn clause(field: &Field, words: &[u16]) -> Option<String> {
+pub fn clause<N: Copy + Into<u32>>(field: &Field, words: &[N]) -> Option<String> {
     let found = field.of(words)?;
     match field.value {
         Value::Number(limits) => {
             Some(format!("{} {found} {}", field.name, limits.unit).trim_end().to_string())
         }
         Value::Word(all) => {
-            let (word, _) = all.iter().find(|(_, number)| *number == found)?;
+            let (word, _) = all.iter().find(|(_, number)| u32::from(*number) == found)?;
             Some(format!("{} {word}", field.name))
         }
     }
@@ -29,10 +30,10 @@ pub fn section_of(words: &Member) -> Option<&'static Section> {
     Section::of(words[SECTION_WORD])
 }
 
-fn line<'a>(
+fn line<'a, N: Copy + Into<u32>>(
     head: &str,
     fields: impl IntoIterator<Item = &'a Field>,
-    words: &[u16],
+    words: &[N],
 ) -> Option<String> {
     let mut line = head.to_string();
     for field in fields {
@@ -49,16 +50,24 @@ fn member(words: &Member) -> Option<String> {
     line(kind.name, fields, words)
 }
 
-/// The first version is left out of the heading.
+/// The file and its version; the first version is left out.
+fn opening(which: Which, version: u16) -> Option<String> {
+    match version {
+        FIRST_VERSION => Some(which.to_string()),
+        _ => Some(format!("{which}, {}", clause(&which.layout().version(), &[version])?)),
+    }
+}
+
 fn survey(survey: &Survey) -> Option<String> {
-    let said = (survey.version != FIRST_VERSION).then_some(&VERSION);
-    let members = survey.members.iter().map(member);
-    Some(line("survey", said, &[survey.version])? + &members.collect::<Option<String>>()?)
+    let heading = line::<u16>(&opening(Which::Survey, survey.version)?, [], &[])?;
+    Some(heading + &survey.members.iter().map(member).collect::<Option<String>>()?)
 }
 
 fn vehicle(vehicle: &Vehicle) -> Option<String> {
-    let axles = vehicle.axles.iter().map(|words| line("axle", &AXLE, words));
-    Some(line("vehicle", &HEADING, &vehicle.heading)? + &axles.collect::<Option<String>>()?)
+    let opening = opening(Which::Vehicle, vehicle.version)?;
+    let fields = &AxleLayout::of(vehicle.version).other;
+    let axles = vehicle.axles.iter().map(|words| line("axle", fields, words));
+    Some(line(&opening, &HEADING, &vehicle.heading)? + &axles.collect::<Option<String>>()?)
 }
 
 /// The text form of a file. None where a number has no word: the library takes no such file.

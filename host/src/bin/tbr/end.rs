@@ -88,7 +88,7 @@ impl From<YardRefusal> for Refused {
 /// What was wrong.
 pub enum Cause {
     /// The library refuses the file; the fields at fault, and the numbers of the record.
-    Refused { refusal: Box<Refused>, faults: Vec<FieldFault>, record: Vec<(&'static str, u16)> },
+    Refused { refusal: Box<Refused>, faults: Vec<FieldFault>, record: Vec<(&'static str, u32)> },
     /// The text form has these faults.
     Text(Vec<TextError>),
     /// Something else.
@@ -143,7 +143,7 @@ impl Failure {
             lines += &format!("tbr: {}: {message}\n", self.file);
         }
         if let Cause::Refused { record, .. } = &self.cause {
-            let number = |(name, number): &(&str, u16)| format!("{name} {number}");
+            let number = |(name, number): &(&str, u32)| format!("{name} {number}");
             let numbers: Vec<String> = record.iter().map(number).collect();
             if !numbers.is_empty() {
                 lines += &format!("tbr: its numbers: {}\n", numbers.join(", "));

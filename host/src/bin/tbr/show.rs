@@ -5,10 +5,10 @@ use crate::end::{End, Failure};
 use crate::input::{read, Input};
 use crate::take::{self, internal, summary, yard_summary};
 use std::ffi::OsStr;
-use tbr::file::{Contents, Member, Survey};
-use tbr::form::{clause, kind_of, look, section_of, Field, Look, AXLE, HEADING};
+use tbr::file::{Axle, Contents, Member, Survey};
+use tbr::form::{clause, kind_of, look, section_of, AxleLayout, Field, Look, HEADING};
 
-fn clauses(fields: &[Field], words: &[u16]) -> Option<String> {
+fn clauses(fields: &[Field], words: &[impl Copy + Into<u32>]) -> Option<String> {
     let all: Option<Vec<String>> = fields.iter().map(|field| clause(field, words)).collect();
     Some(all?.join(", "))
 }
@@ -23,8 +23,8 @@ fn member(place: usize, words: &Member) -> Option<String> {
     Some(format!("{place:>3}  {kind}: {others}\n     {section}: {fields}\n"))
 }
 
-fn axle(place: usize, words: &[u16]) -> Option<String> {
-    Some(format!("{place:>3}  axle: {}\n", clauses(&AXLE, words)?))
+fn axle(place: usize, fields: &[Field], words: &Axle) -> Option<String> {
+    Some(format!("{place:>3}  axle: {}\n", clauses(fields, words)?))
 }
 
 fn lines(contents: &Contents) -> Option<String> {
@@ -34,7 +34,9 @@ fn lines(contents: &Contents) -> Option<String> {
         }
         Contents::Vehicle(vehicle) => {
             let heading = format!("     {}\n", clauses(&HEADING, &vehicle.heading)?);
-            let axles = vehicle.axles.iter().zip(1..).map(|(words, place)| axle(place, words));
+            let fields = &AxleLayout::of(vehicle.version).other;
+            let axles = vehicle.axles.iter().zip(1..);
+            let axles = axles.map(|(words, place)| axle(place, fields, words));
             Some(heading + &axles.collect::<Option<String>>()?)
         }
     }

@@ -140,14 +140,10 @@ fn counted(count: usize, what: &str) -> String {
     format!("{count} {what}{}", if count == 1 { "" } else { "s" })
 }
 
-/// In a few words. A vehicle has but one version.
+/// In a few words.
 pub fn summary(contents: &Contents) -> String {
-    let which = contents.which();
-    let summary = format!("{which} of {}", counted(contents.count(), which.layout().record));
-    match contents {
-        Contents::Survey(survey) => format!("{summary}, version {}", survey.version),
-        Contents::Vehicle(_) => summary,
-    }
+    let (which, version) = (contents.which(), contents.version());
+    format!("{which} of {}, version {version}", counted(contents.count(), which.layout().record))
 }
 
 /// The same of a yard of so many vehicles.
