@@ -5,6 +5,7 @@ mod common;
 use common::{expected, library, seed};
 use reference::generate::*;
 use reference::layout::IN_ORDER;
+use std::collections::BTreeMap;
 
 const DAMAGED: u64 = 500_000;
 const LONGEST: usize = 2500;
@@ -49,7 +50,37 @@ fn records_all_but_in_order() {
     assert!(SHORT / 4 < refused && refused < SHORT, "{refused} are out of order");
 }
 
-/// Longer than any survey: a survey has at most 2054 bytes, a vehicle 73.
+/// Vehicles of both versions by turns, each with a byte changed, cut off or put behind it.
+#[test]
+fn vehicles_all_but_sound() {
+    let first = seed(0xda3_0005);
+    let mut random = Random::new(first);
+    let survey = survey_file(&mut random, Spread::Usual, 1);
+    let mut seen: BTreeMap<(u64, Option<u64>), u64> = BTreeMap::new();
+    for seed in first..first + SHORT {
+        let mut random = Random::new(seed);
+        let (version, way) = (seed % 2, seed / 2 % 8);
+        let axles = 1 + random.below(16);
+        let words = vehicle_of(&mut random, VERSIONS[version as usize], Spread::Wide, axles);
+        let mut vehicle = vehicle_bytes(&words);
+        let at = random.below(vehicle.len());
+        match way {
+            0 => vehicle.truncate(at),
+            1 => vehicle.push(0),
+            _ => vehicle[at] = random.bits().to_le_bytes()[0],
+        }
+        agree(&survey, &vehicle, seed);
+        let number = expected(&survey, &vehicle).err().map(|refused| refused.number);
+        *seen.entry((version, number)).or_default() += 1;
+    }
+    // A file cut or lengthened is of no version's length.
+    for version in 0..2 {
+        let times = seen.get(&(version, Some(1))).copied().unwrap_or(0);
+        assert!(times >= SHORT / 8, "version {}: {seen:?}", version + 1);
+    }
+}
+
+/// Longer than any survey: a survey has at most 2054 bytes, a vehicle 105.
 #[test]
 fn random_bytes_of_every_length() {
     let first = seed(0xda3_0002);
@@ -71,7 +102,7 @@ fn random_bytes_behind_a_sound_mark() {
     for seed in first..first + SHORT {
         let mut random = Random::new(seed);
         let survey = any_bytes(&mut random, b"TBR", 120);
-        let vehicle = any_bytes(&mut random, b"TBV", 80);
+        let vehicle = any_bytes(&mut random, b"TBV", 120);
         agree(&survey, &vehicle, seed);
         agree(&sound, &vehicle, seed);
     }

@@ -4,7 +4,7 @@ mod cli;
 
 use cli::{answer, run, sample, tbr, text, Folder};
 use std::path::Path;
-use tbr::form::{Field, Value, AXLE, FIRST_VERSION, HEADING, KINDS, ORDER, SECTIONS, VERSION};
+use tbr::form::{AxleLayout, Field, Value, FIRST_VERSION, HEADING, KINDS, ORDER, SECTIONS};
 use tbr::Which;
 
 #[test]
@@ -360,7 +360,7 @@ case-a.tbr: survey of 1 member, version 1
     assert!(status == 0 && text.contains(member), "{text}");
     let (status, text, _) = run(&["show", "lorry.tbv"]);
     let expected = "\
-lorry.tbv: vehicle of 2 axles
+lorry.tbv: vehicle of 2 axles, version 1
      class lorry, track 179 cm
   1  axle: weight 2575 kgf, distance 0 cm
   2  axle: weight 6950 kgf, distance 380 cm
@@ -434,11 +434,24 @@ fn the_page_on_the_text_form_is_whole() {
         has(&format!("section {}, ", section.name));
         section.fields.iter().for_each(field);
     }
-    HEADING.iter().chain(&AXLE).chain([&VERSION]).for_each(field);
+    HEADING.iter().for_each(field);
+    let layouts = [Which::Survey, Which::Vehicle].map(Which::layout);
+    for version in FIRST_VERSION..=Which::Vehicle.layout().last_version {
+        let weight = &AxleLayout::of(version).other[0];
+        AxleLayout::of(version).other.iter().for_each(field);
+        let Value::Number(limits) = weight.value else { panic!("{weight:?}") };
+        let words = if version == FIRST_VERSION { " of a vehicle" } else { "" };
+        has(&format!("in version {version}{words}"));
+        has(&format!("up to {} {}", limits.greatest, limits.unit));
+    }
     let places = KINDS.iter().map(|kind| page.find(&format!(" {}", kind.name)));
     assert!(places.is_sorted_by(|one, other| one < other && one.is_some()), "{page}");
-    let [first, last] = [FIRST_VERSION, Which::Survey.layout().last_version];
-    has(&format!("The version of a survey is {first} or {last}, and {first} where"));
+    for layout in layouts {
+        field(&layout.version());
+        let [first, last] = [FIRST_VERSION, layout.last_version];
+        let versions = format!("is {first} or {last}, and {first} where");
+        has(&format!("The version of a survey or a vehicle {versions}"));
+    }
     has(ORDER.strip_prefix("by kind, ").unwrap());
 }
 

@@ -2,7 +2,7 @@
 //! axles added, no vehicle load falls; and where every closely spaced stringer has the same rot in
 //! both surveys, that of its deck included, no permitted load rises, the figure does not rise, and
 //! what is refused, a member or the bridge, does not pass. The shared members are in the same
-//! places, or matched wherever they stand, in surveys of either version.
+//! places, or matched wherever they stand, in surveys of either version; so may the vehicles be.
 
 mod common;
 
@@ -82,41 +82,69 @@ fn never_better(first: &Bridge, second: &Bridge, partners: &[usize], seed: u64) 
     shared(first, second, partners).for_each(|(one, other)| no_better(one, other, seed));
 }
 
+/// Vehicles and heavier ones, whose pairs of versions take turns by a number.
+#[derive(Default)]
+struct TwoVersions {
+    met: BTreeMap<[u16; 2], u64>,
+}
+
+impl TwoVersions {
+    fn vehicles(
+        &mut self,
+        (random, turn): (&mut Random, u64),
+        spread: Spread,
+        axles: usize,
+        more: usize,
+    ) -> [VehicleWords; 2] {
+        let versions = [VERSIONS[(turn % 2) as usize], VERSIONS[(turn / 2 % 2) as usize]];
+        *self.met.entry(versions).or_default() += 1;
+        two_vehicles(random, versions, spread, axles, more)
+    }
+
+    /// Each pair of versions is met in a quarter of the pairs.
+    fn hold(&self, pairs: u64) {
+        let quarter = self.met.values().all(|&times| times == pairs / 4);
+        assert!(self.met.len() == 4 && quarter, "{:?}", self.met);
+    }
+}
+
 #[test]
 fn worse_files_never_rate_better() {
     let start = seed(0xfa11_0001);
-    let (mut lower, mut turned) = (0, 0);
+    let (mut lower, mut turned, mut versions) = (0, 0, TwoVersions::default());
     for seed in start..start + PAIRS {
         let mut random = Random::new(seed);
         let spread = if random.once_in(4) { Spread::Wide } else { Spread::Usual };
         let (members, axles) = (1 + random.below(4), 1 + random.below(6));
         let members = survey(&mut random, spread, members);
-        let vehicle = vehicle(&mut random, spread, axles);
+        let [vehicle, heavier] = versions.vehicles((&mut random, seed), spread, axles, 3);
         let worse = worse_survey(&mut random, &members, Wear::SameSpread, 3);
-        let heavier = worse_vehicle(&mut random, &vehicle, 3);
         let first = judged(&members, &vehicle, seed);
         let second = judged(&worse, &heavier, seed);
         never_better(&first, &second, &same_places(&first), seed);
         lower += u32::from(second.judgement.figure < first.judgement.figure);
         turned += u32::from(first.judgement.passes && !second.judgement.passes);
     }
+    versions.hold(PAIRS);
     assert!(lower > 1000 && turned > 100, "{lower} figures fell, {turned} verdicts turned");
 }
 
 /// The largest files: 64 members, axles up to 16.
 #[test]
 fn worse_full_files_never_rate_better() {
+    const FULL: u64 = 300;
     let start = seed(0xfa11_0002);
-    for seed in start..start + 300 {
+    let mut versions = TwoVersions::default();
+    for seed in start..start + FULL {
         let mut random = Random::new(seed);
         let members = full_survey(&mut random, Spread::Usual);
-        let vehicle = vehicle(&mut random, Spread::Usual, 12);
+        let [vehicle, heavier] = versions.vehicles((&mut random, seed), Spread::Usual, 12, 4);
         let worse = worse_survey(&mut random, &members, Wear::SameSpread, 0);
-        let heavier = worse_vehicle(&mut random, &vehicle, 4);
         let first = judged(&members, &vehicle, seed);
         let second = judged(&worse, &heavier, seed);
         never_better(&first, &second, &same_places(&first), seed);
     }
+    versions.hold(FULL);
 }
 
 /// Two surveys of any versions: the records of the second stand in any places or in those of the
@@ -188,6 +216,7 @@ fn some_members(random: &mut Random, most: usize) -> Vec<Words> {
 struct Seen {
     /// By the versions: the pairs, and the partners in another place.
     versions: BTreeMap<[u16; 2], (u64, usize)>,
+    vehicles: TwoVersions,
     other_matches: usize,
     lower: u32,
     turned: u32,
@@ -204,18 +233,20 @@ impl Seen {
 
     /// The pairs are worth something only if records move, in all four pairs of versions.
     fn hold(&self, pairs: u64) {
-        let Seen { versions, lower, .. } = self;
+        let Seen { versions, vehicles, lower, .. } = self;
+        vehicles.hold(pairs);
         let often = |&(met, moved): &(u64, usize)| met == pairs / 4 && moved as u64 > met;
         assert!(versions.len() == 4 && versions.values().all(often), "{versions:?}");
         assert!(u64::from(*lower) > pairs / 20, "{lower} figures fell");
     }
 }
 
-/// One pair of worse files, whatever the places.
+/// One pair of worse files, whatever the places. The four pairs of the surveys' versions take turns by
+/// the seed, and with each of them those of the vehicles.
 fn matched_pair(seen: &mut Seen, random: &mut Random, members: &[Words], more: usize, seed: u64) {
     let axles = 1 + random.below(6);
-    let vehicle = vehicle(random, Spread::Usual, axles);
-    let heavier = worse_vehicle(random, &vehicle, 3);
+    let turn = (&mut *random, seed / 4);
+    let [vehicle, heavier] = seen.vehicles.vehicles(turn, Spread::Usual, axles, 3);
     let surveys = TwoSurveys::new((random, seed), members, Wear::SameSpread, more);
     let [first, second] = surveys.judged([&vehicle, &heavier], seed);
     never_better(&first, &second, &surveys.second.partners, seed);
@@ -262,12 +293,12 @@ fn worse_matched_full_files_never_rate_better() {
 #[test]
 fn vehicle_loads_of_matched_records_never_fall() {
     let start = seed(0xfa11_0006);
-    let (mut moved, mut heavier) = (0, 0);
+    let (mut moved, mut heavier, mut versions) = (0, 0, TwoVersions::default());
     for seed in start..start + PAIRS {
         let mut random = Random::new(seed);
         let (members, axles) = (some_members(&mut random, 4), 1 + random.below(4));
-        let vehicle = vehicle(&mut random, Spread::Usual, axles);
-        let heavier_vehicle = worse_vehicle(&mut random, &vehicle, 3);
+        let turn = (&mut random, seed / 4);
+        let [vehicle, heavier_vehicle] = versions.vehicles(turn, Spread::Usual, axles, 3);
         let surveys = TwoSurveys::new((&mut random, seed), &members, Wear::Any, 3);
         let [first, second] = surveys.judged([&vehicle, &heavier_vehicle], seed);
         let pairs = shared(&first, &second, &surveys.second.partners);
@@ -278,6 +309,7 @@ fn vehicle_loads_of_matched_records_never_fall() {
         }
         moved += surveys.moved();
     }
+    versions.hold(PAIRS);
     assert!(moved > 20_000 && heavier > 10_000, "{moved} moved, {heavier} vehicle loads rose");
 }
 
@@ -289,7 +321,8 @@ fn a_member_added_in_the_middle() {
     beam[..11].copy_from_slice(&[2, 1, 300, 0, 200, 0, 100, 1, 24, 0, 1]);
     let (mut worn, mut added) = (stringer, stringer);
     (worn[S2], added[SPAN]) = (1, 501);
-    let vehicle = VehicleWords { version: 1, class: 0, track: 190, axles: vec![[1500, 0], [3000, 370]] };
+    let vehicle =
+        VehicleWords { version: 1, class: 0, track: 190, axles: vec![[1500, 0], [3000, 370]] };
     let permitted = |version, records: &[Words]| {
         let bridge = judged_file(&survey_bytes_of(version, records), &vehicle, 0);
         bridge.members.iter().map(|member| member.permitted).collect::<Vec<_>>()
@@ -305,14 +338,14 @@ fn a_member_added_in_the_middle() {
 #[test]
 fn vehicle_loads_never_fall_whatever_wears() {
     let start = seed(0xfa11_0003);
-    let (mut rose, mut heavier) = (0, 0);
+    let (mut rose, mut heavier, mut versions) = (0, 0, TwoVersions::default());
     for seed in start..start + PAIRS {
         let mut random = Random::new(seed);
         let (members, axles) = (1 + random.below(4), 1 + random.below(6));
         let members = survey(&mut random, Spread::Usual, members);
-        let vehicle = vehicle(&mut random, Spread::Usual, axles);
+        let turn = (&mut random, seed);
+        let [vehicle, heavier_vehicle] = versions.vehicles(turn, Spread::Usual, axles, 3);
         let worse = worse_survey(&mut random, &members, Wear::Any, 3);
-        let heavier_vehicle = worse_vehicle(&mut random, &vehicle, 3);
         let first = judged(&members, &vehicle, seed);
         let second = judged(&worse, &heavier_vehicle, seed);
         let places = same_places(&first);
@@ -322,6 +355,7 @@ fn vehicle_loads_never_fall_whatever_wears() {
             heavier += u32::from(words[KIND] == CLOSE_STRINGER && other.vehicle > one.vehicle);
         }
     }
+    versions.hold(PAIRS);
     assert!(rose > 10 && heavier > 1000, "{rose} permitted loads rose, {heavier} vehicle loads");
 }
 
@@ -332,7 +366,8 @@ fn deeper_deck_rot_may_bear_more() {
     [words[KIND], words[SPECIES], words[SPAN], words[SPACING]] = [CLOSE_STRINGER, 8, 1009, 89];
     [words[DEAD_LOAD], words[SECTION], words[S1], words[S2], words[S3]] = [100, 1, 31, 7, 3];
     [words[BOARDS], words[BOARD_THICKNESS], words[BOARD_WIDTH]] = [3, 15, 44];
-    let vehicle = VehicleWords { version: 1, class: 0, track: 190, axles: vec![[1500, 0], [3000, 370]] };
+    let vehicle =
+        VehicleWords { version: 1, class: 0, track: 190, axles: vec![[1500, 0], [3000, 370]] };
     let figures = [9, 10].map(|rot| {
         words[DECK_ROT] = rot;
         judged(&[words], &vehicle, 0).judgement.figure

@@ -5,18 +5,22 @@ mod common;
 
 use common::{expected, library, seed};
 use reference::generate::*;
-use reference::Judged;
+use reference::layout::HEAVY_AXLES;
+use reference::{reader, Judged};
 use std::collections::BTreeMap;
 
 const PAIRS: u64 = 100_000;
 
-/// Files for the library: most are small, as brute force is dear; one in 400 is of the largest.
-fn pair(random: &mut Random) -> (Vec<u8>, Vec<u8>) {
+/// Files for the library: most are small, as brute force is dear; one in 400 is of the largest. The
+/// sorts take turns by the seed, and so do the versions of the vehicle in those that are not damaged.
+fn pair(seed: u64) -> (Vec<u8>, Vec<u8>) {
+    let random = &mut Random::new(seed);
     let spread = if random.once_in(3) { Spread::Wide } else { Spread::Usual };
-    let (members, axles) = match random.below(400) {
+    let version = VERSIONS[(seed / 400 % 2) as usize];
+    let (members, axles) = match seed % 400 {
         0 => {
             let survey = full_survey_file(random, spread);
-            return (survey, vehicle_bytes(&vehicle(random, spread, 16)));
+            return (survey, vehicle_bytes(&vehicle_of(random, version, spread, 16)));
         }
         1..=60 => return some_damage(random),
         61..=120 => match at_the_limit(random) {
@@ -27,7 +31,7 @@ fn pair(random: &mut Random) -> (Vec<u8>, Vec<u8>) {
         _ => (1 + random.below(3), 1 + random.below(5)),
     };
     let survey = survey_file(random, spread, members);
-    (survey, vehicle_bytes(&vehicle(random, spread, axles)))
+    (survey, vehicle_bytes(&vehicle_of(random, version, spread, axles)))
 }
 
 /// Is the least permitted load another member's than the governing one's?
@@ -40,10 +44,11 @@ fn governs_without_the_figure(judged: &Judged) -> bool {
 fn the_library_answers_as_the_reference() {
     let first = seed(0x7b2_0001);
     let mut seen: BTreeMap<String, u64> = BTreeMap::new();
-    let (mut apart, mut ordered) = (0, 0);
+    let (mut apart, mut ordered, mut heavy) = (0, 0, 0);
     for seed in first..first + PAIRS {
-        let (survey, vehicle) = pair(&mut Random::new(seed));
+        let (survey, vehicle) = pair(seed);
         ordered += u64::from(survey.starts_with(b"TBR\x02\x00"));
+        heavy += u64::from(vehicle.starts_with(b"TBV\x02\x00"));
         let answer = library(&survey, &vehicle);
         assert_eq!(answer, expected(&survey, &vehicle), "TBR_SEED={seed}");
         apart += u32::from(answer.as_ref().is_ok_and(governs_without_the_figure));
@@ -64,6 +69,52 @@ fn the_library_answers_as_the_reference() {
     }
     assert!(apart >= 2000, "the governing member has not the figure in {apart} pairs");
     assert!(ordered >= PAIRS / 4, "{ordered} surveys of version 2");
+    assert!(heavy >= PAIRS / 4, "{heavy} vehicles of version 2");
+}
+
+/// "A vehicle rates alike in both versions", and as the reference has it; then with an axle that only
+/// version 2 holds.
+#[test]
+fn both_versions_of_a_vehicle_rate_alike() {
+    let first = seed(0x7b2_0007);
+    for seed in first..first + 10_000 {
+        let random = &mut Random::new(seed);
+        let spread = if random.once_in(3) { Spread::Wide } else { Spread::Usual };
+        let (members, axles) = (1 + random.below(3), 1 + random.below(5));
+        let survey = survey_file(random, spread, members);
+        let mut heavy = fitting_vehicle(random, spread, axles);
+        let light = vehicle_bytes(&VehicleWords { version: 1, ..heavy.clone() });
+        let answer = library(&survey, &light);
+        assert_eq!(answer, expected(&survey, &light), "TBR_SEED={seed}");
+        assert_eq!(library(&survey, &vehicle_bytes(&heavy)), answer, "TBR_SEED={seed}");
+        heavy.axles[random.below(axles)][0] = random.large(60_001, 200_000);
+        let heavy = vehicle_bytes(&heavy);
+        assert_eq!(library(&survey, &heavy), expected(&survey, &heavy), "TBR_SEED={seed}");
+    }
+}
+
+/// Each edge of a weight of four bytes, at each axle, and 16 such axles close together, on every kind.
+#[test]
+fn weights_at_the_edges() {
+    let seed = seed(0x7b2_0008);
+    let mut random = Random::new(seed);
+    let survey = full_survey_file(&mut random, Spread::Usual);
+    let beyond = [0, 200_001, 262_145, u32::MAX];
+    for weight in HEAVY_EDGES.into_iter().chain(beyond) {
+        for i in 0..16 {
+            let mut words = vehicle_of(&mut random, HEAVY_AXLES, Spread::Wide, 16);
+            words.axles[i][0] = weight;
+            let vehicle = vehicle_bytes(&words);
+            let read = reader::vehicle(&vehicle).is_ok();
+            assert_eq!(read, !beyond.contains(&weight), "{weight} kgf at {i}");
+            let answer = library(&survey, &vehicle);
+            assert_eq!(answer, expected(&survey, &vehicle), "TBR_SEED={seed}, {weight} at {i}");
+        }
+        let axles = (0..16).map(|i| [weight, i.min(1)]).collect();
+        let vehicle = VehicleWords { version: HEAVY_AXLES, class: 1, track: 300, axles };
+        let vehicle = vehicle_bytes(&vehicle);
+        assert_eq!(library(&survey, &vehicle), expected(&survey, &vehicle), "{weight} kgf");
+    }
 }
 
 /// Two members or more with the least margin: the first of them governs, whatever their loads.
@@ -109,7 +160,8 @@ fn each_kind_and_section_alone() {
     for i in 0..3000 {
         let spread = if i % 2 == 0 { Spread::Wide } else { Spread::Usual };
         let members = survey(&mut random, spread, 1);
-        let vehicle = vehicle_bytes(&vehicle(&mut random, spread, 2));
+        let version = VERSIONS[i / 2 % 2];
+        let vehicle = vehicle_bytes(&vehicle_of(&mut random, version, spread, 2));
         let survey = survey_bytes(&members);
         assert_eq!(library(&survey, &vehicle), expected(&survey, &vehicle), "TBR_SEED={seed}, {i}");
         *seen.entry((members[0][0], members[0][7])).or_default() += 1;
@@ -132,7 +184,8 @@ fn numbers_at_the_edges() {
     }
 }
 
-/// One damage in each way at each place of the largest files, and versions that no file has.
+/// One damage in each way at each place of the largest files, versions that no file has, and lengths
+/// that its version does not have.
 #[test]
 fn refusals_at_every_place() {
     let first = seed(0x7b2_0005);
@@ -140,7 +193,8 @@ fn refusals_at_every_place() {
         let mut random = Random::new(seed);
         let of_records = [damaged_surveys(&mut random), damaged_vehicles(&mut random)];
         let of_order = [misplaced_surveys(&mut random), wrong_versions(&mut random)];
-        for all in of_records.into_iter().chain(of_order) {
+        let of_length = [wrong_lengths(&mut random)];
+        for all in of_records.into_iter().chain(of_order).chain(of_length) {
             for Damaged { survey, vehicle, refusal } in all {
                 assert_eq!(library(&survey, &vehicle), Err(refusal), "TBR_SEED={seed}");
             }

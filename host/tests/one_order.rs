@@ -83,9 +83,6 @@ fn headings_with_a_version() {
         let text = format!("# a bridge\n{heading}\n{member}");
         assert_eq!(faults(&text), [format!("line 2, {words}")]);
     }
-    let vehicle =
-        "vehicle, class lorry, track 190 cm, version 1\naxle, weight 5 kgf, distance 0 cm";
-    assert_eq!(faults(vehicle), ["line 1, 'version 1': there is no such field here"]);
 }
 
 /// Each of the three fields decides where those before it are equal; equals stand as they come. In

@@ -45,7 +45,8 @@ fn hundreds_of_bridges() {
         let spread = if i % 2 == 0 { Spread::Wide } else { Spread::Usual };
         let (members, axles) = (1 + random.below(64), 1 + random.below(16));
         let survey = survey_file(&mut random, spread, members);
-        let vehicle = vehicle_bytes(&vehicle(&mut random, spread, axles));
+        let vehicle = vehicle_of(&mut random, VERSIONS[i / 2 % 2], spread, axles);
+        let vehicle = vehicle_bytes(&vehicle);
         agree(&[survey, vehicle].concat(), &format!("TBR_SEED={seed}, input {i}"));
     }
 }
@@ -60,13 +61,15 @@ fn refused_files() {
     }
 }
 
-/// Records out of order in each way, and versions that no file has.
+/// Records out of order in each way, versions that no file has, and of a vehicle every axle damaged and
+/// lengths that its version does not have.
 #[test]
-fn refused_orders_and_versions() {
+fn refused_orders_versions_and_vehicles() {
     let seed = seed(0xb41_0005);
     let mut random = Random::new(seed);
-    let all = [misplaced_surveys(&mut random), wrong_versions(&mut random)];
-    for (i, damaged) in all.into_iter().flatten().enumerate() {
+    let of_order = [misplaced_surveys(&mut random), wrong_versions(&mut random)];
+    let of_vehicles = [damaged_vehicles(&mut random), wrong_lengths(&mut random)];
+    for (i, damaged) in of_order.into_iter().chain(of_vehicles).flatten().enumerate() {
         let input = [damaged.survey, damaged.vehicle].concat();
         agree(&input, &format!("TBR_SEED={seed}, input {i}"));
     }
@@ -77,14 +80,16 @@ fn refused_orders_and_versions() {
 fn cut_and_lengthened_inputs() {
     let mut random = Random::new(seed(0xb41_0003));
     let survey = survey_bytes(&survey(&mut random, Spread::Usual, 2));
-    let vehicle = vehicle_bytes(&vehicle(&mut random, Spread::Usual, 3));
-    let input = [survey, vehicle].concat();
-    for length in 0..=input.len() {
-        agree(&input[..length], &format!("the first {length} bytes"));
-    }
-    for more in [1, 2, 100, 65_536, 3_000_000] {
-        let longer = [&input[..], &vec![7; more]].concat();
-        agree(&longer, &format!("{more} bytes more"));
+    for version in VERSIONS {
+        let vehicle = vehicle_bytes(&vehicle_of(&mut random, version, Spread::Usual, 3));
+        let input = [&survey[..], &vehicle].concat();
+        for length in 0..=input.len() {
+            agree(&input[..length], &format!("version {version}, the first {length} bytes"));
+        }
+        for more in [1, 2, 100, 65_536, 3_000_000] {
+            let longer = [&input[..], &vec![7; more]].concat();
+            agree(&longer, &format!("version {version}, {more} bytes more"));
+        }
     }
 }
 

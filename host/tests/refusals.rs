@@ -10,6 +10,14 @@ use tbr::{check_survey, check_vehicle, judge, Refusal, Which};
 
 const SURVEY: &[u8] = include_bytes!("../../samples/case-a.tbr");
 const VEHICLE: &[u8] = include_bytes!("../../samples/case-l.tbv");
+/// Version 2, six axles.
+const TRAILER: &[u8] = include_bytes!("../../samples/transformer-trailer.tbv");
+
+/// The trailer with these bytes in the weight of its second axle.
+fn with_weight(bytes: &[u8]) -> Vec<u8> {
+    let at = 9 + 6;
+    [&TRAILER[..at], bytes, &TRAILER[at + bytes.len()..]].concat()
+}
 
 /// The bytes with one of them changed.
 fn changed(bytes: &[u8], at: usize, to: u8) -> Vec<u8> {
@@ -64,10 +72,20 @@ fn each_number_of_a_vehicle() {
     assert_eq!(vehicle_refusal(&[]), (1, 0));
     assert_eq!(vehicle_refusal(&VEHICLE[..16]), (1, 0));
     assert_eq!(vehicle_refusal(SURVEY), (2, 0));
-    for version in [0, 2] {
+    for version in [0, 3] {
         assert_eq!(vehicle_refusal(&changed(VEHICLE, 3, version)), (2, 0));
+        assert_eq!(vehicle_refusal(&changed(TRAILER, 3, version)), (2, 0));
     }
+    // The length is the other version's.
+    assert_eq!(vehicle_refusal(&changed(VEHICLE, 3, 2)), (1, 0));
+    assert_eq!(vehicle_refusal(&changed(TRAILER, 3, 1)), (1, 0));
     assert_eq!(vehicle_refusal(&changed(VEHICLE, 8, 0)), (3, 0));
+    // 200,000 is 0x30d40, and 72,500 is 0x11b34.
+    let [heaviest, beyond] = [[0x40, 0x0d, 3], [0x41, 0x0d, 3]];
+    assert_eq!(check_vehicle(&with_weight(&heaviest)), Ok(()));
+    assert_eq!(vehicle_refusal(&with_weight(&beyond)), (7, 2));
+    assert_eq!(vehicle_refusal(&with_weight(&[0, 0, 0])), (7, 2));
+    assert_eq!(vehicle_refusal(&with_weight(&[0x34, 0x1b, 1, 1])), (7, 2));
     let [class, track, first_distance] = [5, 6, 11];
     assert_eq!(vehicle_refusal(&changed(VEHICLE, class, 2)), (7, 0));
     assert_eq!(vehicle_refusal(&changed(VEHICLE, track, 10)), (7, 0));
@@ -94,7 +112,7 @@ fn slices_of_slices() {
 
 #[test]
 fn all_numbers_have_words_of_their_own() {
-    for (file, further) in [(Which::Survey, &[15, 16][..]), (Which::Vehicle, &[])] {
+    for (file, further) in [(Which::Survey, &[15, 16][..]), (Which::Vehicle, &[14, 17])] {
         let numbers: Vec<u64> = (1..=9).chain(further.iter().copied()).collect();
         let meaning = |number: &u64| Refusal { file, number: *number, place: 1 }.meaning();
         let mut words: Vec<String> = numbers.iter().map(meaning).collect();
@@ -103,7 +121,7 @@ fn all_numbers_have_words_of_their_own() {
         assert_eq!(words.len(), numbers.len(), "{words:?}");
     }
     for (file, opening) in
-        [(Which::Survey, "TBR and version 1 or 2"), (Which::Vehicle, "TBV and version 1")]
+        [(Which::Survey, "TBR and version 1 or 2"), (Which::Vehicle, "TBV and version 1 or 2")]
     {
         let words =
             format!("{file} refused, number 2: it does not begin with the letters {opening}");
@@ -253,6 +271,11 @@ fn fields_of_a_vehicle_at_fault() {
         (changed(VEHICLE, class, 2), "class: 2 is not one of: 0 lorry, 1 tractor, 1 trailer"),
         (changed(VEHICLE, track, 10), "track: 10 is outside 100 to 300 cm"),
         (light, "weight: 0 is outside 1 to 60000 kgf"),
+        (with_weight(&[0, 0, 0]), "weight: 0 is outside 1 to 200000 kgf"),
+        (with_weight(&[0x41, 0x0d, 3]), "weight: 200001 is outside 1 to 200000 kgf"),
+        (changed(TRAILER, 9 + 4, 1), "distance: must be 0 cm, not 1"),
+        (changed(TRAILER, TRAILER.len() - 1, 255), "distance: 65440 is outside 1 to 2000 cm"),
+        (changed(TRAILER, class, 2), "class: 2 is not one of: 0 lorry, 1 tractor, 1 trailer"),
         (changed(VEHICLE, first_distance, 1), "distance: must be 0 cm, not 1"),
         (changed(VEHICLE, distance + 1, 255), "distance: 65394 is outside 1 to 2000 cm"),
     ] {
@@ -265,7 +288,7 @@ fn fields_of_a_vehicle_at_fault() {
 #[test]
 fn every_refused_record_has_a_field_at_fault() {
     let mut random = Random::new(common::seed(0xf1e1d));
-    let mut seen = [0; 17];
+    let (mut seen, mut heavy) = ([0; 17], 0);
     for i in 0..50_000 {
         let (survey, vehicle) = some_damage(&mut random);
         for (bytes, answer) in
@@ -275,21 +298,23 @@ fn every_refused_record_has_a_field_at_fault() {
             let named = explain(bytes, &refusal);
             assert_eq!(named.is_empty(), refusal.number < 4, "input {i}: {refusal}");
             seen[usize::try_from(refusal.number).unwrap()] += 1;
+            heavy += u32::from(bytes.starts_with(b"TBV\x02\x00") && refusal.place > 0);
         }
     }
     assert!(seen[1..=8].iter().chain([&seen[16]]).all(|count| *count > 20), "{seen:?}");
+    assert!(heavy > 1000, "{heavy} axles of version 2 are refused");
 }
 
 /// A refusal of other bytes, or with a place or number that cannot be, names nothing.
 #[test]
 fn refusals_of_other_bytes_name_nothing() {
     for file in [Which::Survey, Which::Vehicle] {
-        for number in [0, 1, 3, 4, 7, 8, 9, 15, 16, u64::MAX] {
+        for number in [0, 1, 3, 4, 7, 8, 9, 14, 15, 16, 17, u64::MAX] {
             for place in [0, 1, 2, 65, u64::MAX] {
                 let refusal = Refusal { file, number, place };
                 assert_eq!(explain(&[], &refusal), []);
                 assert_eq!(numbers(&[], &refusal), []);
-                for bytes in [SURVEY, VEHICLE] {
+                for bytes in [SURVEY, VEHICLE, TRAILER] {
                     let (named, all) = (explain(bytes, &refusal), numbers(bytes, &refusal));
                     assert!(named.len() <= all.len(), "{refusal}");
                 }
@@ -328,14 +353,14 @@ fn any_bytes_at_the_public_functions() {
 }
 
 fn hold_total(bytes: &[u8]) {
-    use tbr::form::{clause, kind_of, look, section_of, write, AXLE, HEADING};
+    use tbr::form::{clause, kind_of, look, section_of, write, AXLES, HEADING};
     let _ = (look(bytes), read(bytes));
     let members = file::members(bytes);
     for words in &members {
         if let (Some(kind), Some(section)) = (kind_of(words), section_of(words)) {
             let all = kind.fields.iter().chain(section.fields_in(kind));
             for field in all {
-                let _ = (clause(field, words), clause(field, &[]), field.misfit(words));
+                let _ = (clause(field, words), clause::<u16>(field, &[]), field.misfit(words));
             }
         }
     }
@@ -345,13 +370,14 @@ fn hold_total(bytes: &[u8]) {
         let _ = (write(&contents), contents.bytes(), contents.count());
     }
     if let Some(vehicle) = file::vehicle(bytes) {
-        let _ = (clause(&HEADING[0], &vehicle.heading), clause(&AXLE[1], &[]));
+        let _ = (clause(&HEADING[0], &vehicle.heading), clause::<u32>(&AXLES[1].other[1], &[]));
         let contents = file::Contents::Vehicle(vehicle);
         let _ = (write(&contents), contents.bytes());
     }
 }
 
-/// A file's count and class are a byte each.
+/// A file's count and class are a byte each; a weight has two bytes, or four in version 2, and a
+/// distance two.
 #[test]
 fn what_a_file_cannot_hold_has_no_bytes() {
     use tbr::file::{Contents, Survey, Vehicle};
@@ -359,11 +385,18 @@ fn what_a_file_cannot_hold_has_no_bytes() {
         |count| Contents::Survey(Survey { version: 1, members: vec![[0; 16]; count] }).bytes();
     assert_eq!(survey(255).map(|bytes| bytes.len()), Some(6 + 32 * 255));
     assert_eq!((survey(256), survey(257), survey(512)), (None, None, None));
-    let vehicle = |class, count| {
-        Contents::Vehicle(Vehicle { heading: [class, 190], axles: vec![[1, 0]; count] }).bytes()
+    let length = |version, class, axles| {
+        let vehicle = Vehicle { version, heading: [class, 190], axles };
+        Contents::Vehicle(vehicle).bytes().map(|bytes| bytes.len())
     };
-    assert_eq!(vehicle(255, 255).map(|bytes| bytes.len()), Some(9 + 4 * 255));
-    assert_eq!((vehicle(256, 1), vehicle(0, 256)), (None, None));
+    for (version, axle, most) in [(1, 4, 0xffff), (2, 6, u32::MAX)] {
+        let vehicle = |class, count| length(version, class, vec![[1, 0]; count]);
+        assert_eq!(vehicle(255, 255), Some(9 + axle * 255));
+        assert_eq!((vehicle(256, 1), vehicle(0, 256)), (None, None));
+        assert_eq!(length(version, 0, vec![[most, 0xffff]]), Some(9 + axle));
+        assert_eq!(length(version, 0, vec![[1, 0x1_0000]]), None);
+    }
+    assert_eq!(length(1, 0, vec![[0x1_0000, 0]]), None);
     for length in 0..9 {
         assert_eq!(file::vehicle(&VEHICLE[..length]), None);
         assert_eq!(file::members(&SURVEY[..length]), [[0; 16]; 0]);

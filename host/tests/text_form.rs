@@ -7,10 +7,9 @@ use reference::generate::*;
 use reference::reader;
 use tbr::file::{self, Contents, Survey};
 use tbr::form::{
-    look, read, write, Field, Look, Problem, TextError, Value, AXLE, FIRST_AXLE, HEADING, KINDS,
-    SECTIONS,
+    look, read, write, AxleLayout, Field, Look, Problem, TextError, Value, HEADING, KINDS, SECTIONS,
 };
-use tbr::{check_survey, Which};
+use tbr::{check_survey, check_vehicle, Which};
 
 const STRINGER: &str = "stringer, species pine, span 500 cm, spacing 140 cm, dead load 100 kgf/m, \
                         section log, diameter 28 cm, rot 0 cm, tiers 1";
@@ -19,7 +18,7 @@ const JOINT: &str = "steel plates, span 1200 cm, spacing 420 cm, from support 60
                      section area, area 14 cm2, lost area 2 cm2";
 const AXLES: &str = "axle, weight 1500 kgf, distance 0 cm\naxle, weight 3000 kgf, distance 370 cm";
 
-/// Surveys of both versions and vehicles.
+/// Surveys and vehicles of both versions; those of the vehicles take turns.
 #[test]
 fn files_go_to_text_and_back() {
     let seed = seed(0x7e87_0001);
@@ -28,12 +27,17 @@ fn files_go_to_text_and_back() {
         let spread = if i % 2 == 0 { Spread::Wide } else { Spread::Usual };
         let (members, axles) = (1 + random.below(64), 1 + random.below(16));
         let survey = survey_file(&mut random, spread, members);
-        let vehicle = vehicle_bytes(&vehicle(&mut random, spread, axles));
+        let version = VERSIONS[i / 2 % 2];
+        let vehicle = vehicle_bytes(&vehicle_of(&mut random, version, spread, axles));
         assert_eq!(check_survey(&survey), Ok(()), "TBR_SEED={seed}, {i}");
+        assert_eq!(check_vehicle(&vehicle), Ok(()), "TBR_SEED={seed}, {i}");
         let surveyed = Contents::Survey(file::survey(&survey).unwrap());
         let heading = ["survey\n", "survey, version 2\n"][usize::from(surveyed.version() - 1)];
         assert!(write(&surveyed).is_some_and(|text| text.starts_with(heading)), "{surveyed:?}");
         let driven = Contents::Vehicle(file::vehicle(&vehicle).unwrap());
+        assert_eq!(driven.version(), version, "TBR_SEED={seed}, {i}");
+        let heading = ["vehicle, class ", "vehicle, version 2, class "][usize::from(version - 1)];
+        assert!(write(&driven).is_some_and(|text| text.starts_with(heading)), "{driven:?}");
         for (contents, bytes) in [(surveyed, survey), (driven, vehicle)] {
             assert_eq!(contents.bytes(), Some(bytes), "TBR_SEED={seed}, {i}");
             let text = write(&contents).unwrap();
@@ -127,7 +131,9 @@ fn hold_limits(before: &str, line: &str, fields: &[&Field]) {
             let contents = contents.unwrap_or_else(|e| panic!("{e:?}: {}", text(field, number)));
             assert!(is_taken(&contents), "{}", text(field, number));
         }
-        for number in [least.wrapping_sub(1), greatest + 1, 65_536 + least, u64::MAX] {
+        let wrapped = [1 << 16, 1 << 32].map(|more| more + least);
+        let beyond = [least.wrapping_sub(1), greatest + 1, u64::MAX].into_iter().chain(wrapped);
+        for number in beyond.filter(|number| !(least..=greatest).contains(number)) {
             let faults = read(text(field, number).as_bytes()).unwrap_err();
             let [error] = &faults[..] else { panic!("{faults:?}") };
             assert_eq!((error.line, error.field.as_str()), (line_number, field.name), "{error}");
@@ -139,7 +145,7 @@ fn hold_limits(before: &str, line: &str, fields: &[&Field]) {
 /// The least number that a field takes.
 fn least(field: &Field) -> u16 {
     match field.value {
-        Value::Number(limits) => limits.least,
+        Value::Number(limits) => u16::try_from(limits.least).unwrap(),
         Value::Word(all) => all[0].1,
     }
 }
@@ -173,9 +179,11 @@ fn the_limits_of_every_field_of_every_kind_and_section() {
 fn the_limits_of_every_field_of_a_vehicle() {
     let heading = "vehicle, class lorry, track 190 cm";
     let axles: Vec<&str> = AXLES.lines().collect();
-    let all = |fields: &'static [Field]| fields.iter().collect::<Vec<_>>();
-    hold_limits(&format!("{heading}\n"), axles[0], &all(&FIRST_AXLE));
-    hold_limits(&format!("{heading}\n{}\n", axles[0]), axles[1], &all(&AXLE));
+    for (version, heading) in [(1, heading), (2, "vehicle, version 2, class lorry, track 190 cm")] {
+        let AxleLayout { first, other, .. } = AxleLayout::of(version);
+        hold_limits(&format!("{heading}\n"), axles[0], &first.each_ref());
+        hold_limits(&format!("{heading}\n{}\n", axles[0]), axles[1], &other.each_ref());
+    }
     for (number, taken) in [(100, true), (300, true), (99, false), (301, false)] {
         let heading = with_number(heading, &HEADING[1], number);
         let answer = read(format!("{heading}\n{AXLES}").as_bytes());
@@ -434,6 +442,9 @@ fn files_and_texts_are_told_apart() {
     for (bytes, expected) in [
         (&b"TBR"[..], Look::File(survey)),
         (b"TBV\x01\x00\x00", Look::File(vehicle)),
+        (b"TBV\x02\x00\x00", Look::File(vehicle)),
+        (b"\x01TBV\x02\x00", Look::Yard),
+        (b"vehicle, version 2, class lorry", Look::Text(vehicle)),
         (b"\x02TBV\x01\x00", Look::Yard),
         (b"\x00TBV\x01\x00", Look::Yard),
         (b"\x01TBV", Look::Yard),

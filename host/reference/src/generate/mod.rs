@@ -41,5 +41,5 @@ pub use vehicle::{
     fits, fitting_vehicle, vehicle, vehicle_bytes, vehicle_of, AxleWords, VehicleWords,
     HEAVY_EDGES, VERSIONS,
 };
-pub use worse::{matched_survey, two_vehicles, worse_survey, worse_vehicle, Matched, Wear};
+pub use worse::{matched_survey, two_vehicles, worse_survey, Matched, Wear};
 pub use yard::{damaged_yards, joined, some_yard_damage, yard, yard_bytes, DamagedYard};

@@ -2,7 +2,7 @@
 //! heavier axles, members and axles added; all else the same.
 
 use super::survey::survey;
-use super::vehicle::{fits, fitting_vehicle, vehicle_of, VehicleWords, VERSIONS};
+use super::vehicle::{fitting_vehicle, vehicle_of, VehicleWords};
 use super::{Random, Spread};
 use crate::layout::*;
 
@@ -82,9 +82,14 @@ fn heavier(random: &mut Random, weight: u32, greatest: u32) -> u32 {
     }
 }
 
-/// The same axles in this version, none lighter, and up to `more` others behind them. The version is
-/// one that each weight fits.
-fn worse_in(random: &mut Random, first: &VehicleWords, version: u16, more: usize) -> VehicleWords {
+/// The same axles in this version, which each weight fits, none lighter, and up to `more` others behind
+/// them.
+fn worse_vehicle(
+    random: &mut Random,
+    first: &VehicleWords,
+    version: u16,
+    more: usize,
+) -> VehicleWords {
     let mut worse = VehicleWords { version, ..first.clone() };
     for axle in &mut worse.axles {
         axle[0] = heavier(random, axle[0], heaviest(version));
@@ -94,14 +99,6 @@ fn worse_in(random: &mut Random, first: &VehicleWords, version: u16, more: usize
     let others = vehicle_of(random, version, Spread::Usual, added + 1);
     worse.axles.extend(&others.axles[1..]);
     worse
-}
-
-/// The same axles, none lighter, and up to `more` others behind them, in either version that each
-/// weight fits.
-pub fn worse_vehicle(random: &mut Random, first: &VehicleWords, more: usize) -> VehicleWords {
-    let version = *random.pick(&VERSIONS);
-    let version = if fits(first, version) { version } else { first.version };
-    worse_in(random, first, version, more)
 }
 
 /// A vehicle of so many axles and a heavier one, in these versions.
@@ -116,6 +113,6 @@ pub fn two_vehicles(
         [HEAVY_AXLES, LIGHT_AXLES] => fitting_vehicle(random, spread, axles),
         _ => vehicle_of(random, versions[0], spread, axles),
     };
-    let second = worse_in(random, &first, versions[1], more);
+    let second = worse_vehicle(random, &first, versions[1], more);
     [first, second]
 }
