@@ -78,6 +78,9 @@ fn a_c_program_gets_the_same() {
     let joined = |files: &[&Vec<u8>]| tbr::file::join_yard(files).unwrap();
     let yard = joined(&[&vehicle, &sample("case-l.tbv"), &vehicle, &vehicle, &vehicle]);
     let damaged = joined(&[&vehicle, &marked]);
+    let trailer = sample("transformer-trailer.tbv");
+    let both_versions = joined(&[&trailer, &vehicle, &trailer]);
+    let cut = both_versions[..both_versions.len() - 1].to_vec();
     let all = [
         (&survey, &vehicle, &yard),
         (&vehicle, &vehicle, &yard),
@@ -85,6 +88,8 @@ fn a_c_program_gets_the_same() {
         (&survey, &survey, &survey),
         (&sample("ordered.tbr"), &vehicle, &yard),
         (&out_of_order, &vehicle, &yard),
+        (&survey, &trailer, &both_versions),
+        (&survey, &cut, &cut),
     ];
     for (survey, vehicle, yard) in all {
         for entries in [0, fits - 1, fits, fits + 1, fits + 3] {

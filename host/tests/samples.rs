@@ -20,7 +20,8 @@ fn changed(survey: &[u8], change: impl FnOnce(&mut Survey)) -> Vec<u8> {
 fn text_forms_and_files_agree() {
     let surveys =
         ["case-a.tbr", "close-stringers.tbr", "crescent.tbr", "forest-road.tbr", "ordered.tbr"];
-    for name in surveys.into_iter().chain(["case-l.tbv", "lorry.tbv"]) {
+    let vehicles = ["case-l.tbv", "lorry.tbv", "transformer-trailer.tbv"];
+    for name in surveys.into_iter().chain(vehicles) {
         let stem = name.split('.').next().unwrap();
         let made = form::read(&sample(&format!("{stem}.txt")));
         let made = made.unwrap_or_else(|faults| panic!("{stem}.txt: {faults:?}"));
@@ -97,6 +98,29 @@ fn the_ordered_bridge_bears_the_lorry() {
         let mut expected = loads.clone();
         expected.swap(one, one + 1);
         assert_eq!(loads_of(&free), expected, "{one}");
+    }
+}
+
+/// Version 2: every group of axles weighs more than version 1 holds. The bridge of the forest road is far
+/// from bearing it, and the plates have the figure of class 1 and of the wider track; with a twentieth
+/// of the weight in the same file it is borne.
+#[test]
+fn the_forest_road_bridge_does_not_bear_the_trailer() {
+    let (survey, trailer) = (sample("forest-road.tbr"), sample("transformer-trailer.tbv"));
+    let mut vehicle = file::vehicle(&trailer).unwrap();
+    assert_eq!((vehicle.version, vehicle.axles.len()), (2, 6));
+    assert!(vehicle.axles.iter().all(|[weight, _]| *weight > 60_000));
+    let judgement = judge(&survey, &trailer).unwrap();
+    assert_eq!((judgement.figure, judgement.governing, judgement.passes), (4304, 1, false));
+    let loads = tbr::member_loads(&survey, &trailer).unwrap();
+    let vehicle_loads: Vec<u64> = loads.iter().map(|member| member.vehicle).collect();
+    assert_eq!(vehicle_loads, [49952, 48667, 46800, 29867, 29442, 29442, 29867]);
+    vehicle.axles.iter_mut().for_each(|[weight, _]| *weight /= 20);
+    for version in [1, 2] {
+        vehicle.version = version;
+        let light = Contents::Vehicle(vehicle.clone()).bytes().unwrap();
+        let judgement = judge(&survey, &light).unwrap();
+        assert_eq!((judgement.figure, judgement.passes), (4304, true), "version {version}");
     }
 }
 

@@ -136,6 +136,35 @@ fn the_library_answers_as_the_reference() {
     assert!(several >= 300, "different members govern in {several} yards");
 }
 
+/// Yards in which the versions take turns, from either on: sound ones, and such with one vehicle that
+/// says the other version, so that the next begins elsewhere, or with the last cut by a byte.
+#[test]
+fn yards_of_both_versions() {
+    const YARDS: u64 = 10_000;
+    let first = seed(0x9a4d_2006);
+    let mut sound = [0; 2];
+    for seed in first..first + YARDS {
+        let random = &mut Random::new(seed);
+        let survey = survey_file(random, Spread::Usual, 2);
+        let (begin, way, count) = ((seed % 2) as usize, seed / 2 % 4, 2 + random.below(4));
+        let vehicle = |i| {
+            let axles = 1 + random.below(4);
+            vehicle_bytes(&vehicle_of(random, VERSIONS[(begin + i) % 2], Spread::Usual, axles))
+        };
+        let mut files: Vec<Vec<u8>> = (0..count).map(vehicle).collect();
+        if way == 0 {
+            files[seed as usize % count][3] ^= 3;
+        }
+        let mut yard = joined(&files);
+        yard.truncate(yard.len() - usize::from(way == 1));
+        let answer = library(&survey, &yard, 3 * count + 1);
+        assert_eq!(answer, expected(&survey, &yard, 3 * count + 1), "TBR_SEED={seed}");
+        assert_eq!(way < 2, answer.0.refusal != 0, "TBR_SEED={seed}");
+        sound[begin] += u64::from(answer.0.refusal == 0);
+    }
+    assert_eq!(sound, [YARDS / 4; 2]);
+}
+
 /// One damage in each way at each place of a yard of 32 vehicles.
 #[test]
 fn refusals_at_every_place() {
@@ -158,7 +187,7 @@ fn any_bytes_get_an_answer() {
     for seed in first..first + 40_000 {
         let mut random = Random::new(seed);
         let count = random.between(0, 36).to_le_bytes()[0];
-        let files = [any_bytes(&mut random, b"TBV", 80), any_bytes(&mut random, b"TBV", 80)];
+        let files = [any_bytes(&mut random, b"TBV", 120), any_bytes(&mut random, b"TBV", 120)];
         let yard = [&[count], &files.concat()[..]].concat();
         for yard in [&yard[..], &files[0]] {
             for survey in [&survey, &files[1]] {
@@ -269,6 +298,13 @@ fn joined_and_split() {
     assert_eq!(split_yard(&join_yard(&[files[0]; 3]).unwrap()), Some(vec![files[0]; 3]));
     let short = join_yard(&[files[0], files[2]]).unwrap();
     assert_eq!(split_yard(&short), Some(vec![files[0], files[2]]));
+    // Version 2 has six bytes an axle; any version but that is cut as the first.
+    let heavy = &b"TBV\x02\x00\x00\xbe\x00\x01\x01\x00\x00\x00\x00\x00"[..];
+    let other = b"TBV\x02\x01\x00\xbe\x00\x01\x01\x00\x00\x00";
+    let mixed = [heavy, files[0], other, heavy];
+    assert_eq!(split_yard(&join_yard(&mixed).unwrap()), Some(mixed.to_vec()));
+    let cut = join_yard(&[files[0], &heavy[..14]]).unwrap();
+    assert_eq!(split_yard(&cut), Some(vec![files[0], &heavy[..14]]));
     assert_eq!(split_yard(&[3]), Some(vec![&b""[..]; 3]), "all that is left is nothing");
     for none in [&[][..], &[0], &[33], &[255, 1]] {
         assert_eq!(split_yard(none), None);

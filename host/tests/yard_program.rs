@@ -127,8 +127,8 @@ fn any_bytes_as_a_yard() {
     script.survey(&survey_bytes(&survey(&mut random, Spread::Usual, 2)));
     while script.bytes.len() < 200_000 {
         let count = [random.between(0, 40).to_le_bytes()[0]];
-        let file = any_bytes(&mut random, b"TBV", 80);
-        let more = any_bytes(&mut random, b"TBV", 80);
+        let file = any_bytes(&mut random, b"TBV", 120);
+        let more = any_bytes(&mut random, b"TBV", 120);
         script.yard(&[&count, &file[..], &more].concat(), 3);
         script.yard(&file, 3);
     }
