@@ -4,7 +4,7 @@
 //! `twin AXLES CALLS` it makes so many calls of one of the two and prints nothing.
 
 use reference::generate::*;
-use reference::layout::{LIGHT_AXLES, SPAN};
+use reference::layout::{HEAVY_AXLES, LIGHT_AXLES, SPAN};
 use reference::twin;
 use std::hint::black_box;
 use std::process::ExitCode;
@@ -34,10 +34,11 @@ fn micros(time: Duration) -> f64 {
     time.as_secs_f64() * 1e6
 }
 
-/// A survey and a vehicle.
+/// A survey, a vehicle, and the same vehicle in version 2, which is not measured.
 struct Files {
     survey: Vec<u8>,
     vehicle: Vec<u8>,
+    heavy: Vec<u8>,
 }
 
 /// The first so many members, each of the greatest span, and the first so many axles.
@@ -49,7 +50,8 @@ fn files(members: usize, axles: usize) -> Files {
     }
     let mut vehicle = vehicle_of(&mut random, LIGHT_AXLES, Spread::Usual, 16);
     vehicle.axles.truncate(axles);
-    Files { survey: survey_bytes(&all[..members]), vehicle: vehicle_bytes(&vehicle) }
+    let heavy = vehicle_bytes(&VehicleWords { version: HEAVY_AXLES, ..vehicle.clone() });
+    Files { survey: survey_bytes(&all[..members]), vehicle: vehicle_bytes(&vehicle), heavy }
 }
 
 fn call_library(files: &Files) {
@@ -60,13 +62,15 @@ fn call_twin(files: &Files) {
     let _ = black_box(twin::judge(black_box(&files.survey), black_box(&files.vehicle)));
 }
 
-/// The three give the same answer.
+/// The three give the same answer, in both versions of the vehicle.
 fn agree(files: &Files) {
-    let answer = tbr::judge(&files.survey, &files.vehicle).expect("sound files");
     let brute = reference::judge(&files.survey, &files.vehicle).expect("sound files");
-    let expected = (brute.figure, brute.governing, brute.passes);
-    assert_eq!((answer.figure, answer.governing, answer.passes), expected);
-    assert_eq!(twin::judge(&files.survey, &files.vehicle), Ok(brute));
+    for vehicle in [&files.vehicle, &files.heavy] {
+        let answer = tbr::judge(&files.survey, vehicle).expect("sound files");
+        let expected = (brute.figure, brute.governing, brute.passes);
+        assert_eq!((answer.figure, answer.governing, answer.passes), expected);
+        assert_eq!(twin::judge(&files.survey, vehicle).as_ref(), Ok(&brute));
+    }
 }
 
 /// Library, twin: one call each, taken in turns.

@@ -173,7 +173,7 @@ fn yards(script: &mut Script) {
     script.yard(&joined(&[short, light_l()]), 2);
     script.title("a vehicle of version 1 with the bytes of version 2");
     let long = with_version(&heavy_l(), 1);
-    script.yard(&joined(&[long.clone()]), 1);
+    script.yard(&joined(std::slice::from_ref(&long)), 1);
     script.yard(&joined(&[long, light_l()]), 2);
     script.title("a wrong version among sound vehicles");
     for version in [0, 3, 257, 258] {
