@@ -61,15 +61,17 @@ fn refused_files() {
     }
 }
 
-/// Records out of order in each way, versions that no file has, and of a vehicle every axle damaged and
-/// lengths that its version does not have.
+/// Records out of order in each way, versions that no file has, and of a vehicle every axle damaged,
+/// lengths that its version does not have and weights that version 2 does not.
 #[test]
 fn refused_orders_versions_and_vehicles() {
     let seed = seed(0xb41_0005);
     let mut random = Random::new(seed);
     let of_order = [misplaced_surveys(&mut random), wrong_versions(&mut random)];
     let of_vehicles = [damaged_vehicles(&mut random), wrong_lengths(&mut random)];
-    for (i, damaged) in of_order.into_iter().chain(of_vehicles).flatten().enumerate() {
+    let of_weight = [wrong_weights(&mut random)];
+    let all = of_order.into_iter().chain(of_vehicles).chain(of_weight);
+    for (i, damaged) in all.flatten().enumerate() {
         let input = [damaged.survey, damaged.vehicle].concat();
         agree(&input, &format!("TBR_SEED={seed}, input {i}"));
     }

@@ -12,6 +12,7 @@ use std::collections::BTreeMap;
 enum Wrong {
     // Of a vehicle.
     LowerHalf,
+    ThreeBytes,
     HalvesExchanged,
     BytesTurned,
     HeavyTo60000,
@@ -44,8 +45,9 @@ enum Wrong {
 
 use Wrong::*;
 
-const OF_VEHICLES: [Wrong; 12] = [
+const OF_VEHICLES: [Wrong; 13] = [
     LowerHalf,
+    ThreeBytes,
     HalvesExchanged,
     BytesTurned,
     HeavyTo60000,
@@ -116,6 +118,7 @@ fn weight(wrong: Option<Wrong>, bytes: &[u8]) -> u32 {
     match wrong {
         _ if bytes.len() == 2 => weight,
         Some(LowerHalf) => weight % 65_536,
+        Some(ThreeBytes) => weight % (1 << 24),
         Some(HalvesExchanged) => weight.rotate_left(16),
         Some(BytesTurned) => weight.swap_bytes(),
         _ => weight,
@@ -306,7 +309,8 @@ fn wrong_readings_of_a_vehicle_are_seen() {
     for _ in 0..4 {
         let all = [damaged_vehicles(&mut random), wrong_versions(&mut random)];
         files.extend(all.into_iter().flatten().map(|damaged| damaged.vehicle));
-        files.extend(wrong_lengths(&mut random).into_iter().map(|damaged| damaged.vehicle));
+        let all = [wrong_lengths(&mut random), wrong_weights(&mut random)];
+        files.extend(all.into_iter().flatten().map(|damaged| damaged.vehicle));
     }
     let reference = |file: &Vec<u8>| reader::vehicle(file).map(|v| read_of(&v)).map_err(fault);
     hold(&files, &OF_VEHICLES, reference, |wrong, file| read(wrong, file, &VERSIONS));
@@ -353,7 +357,8 @@ fn each_damage_has_its_number_and_place() {
     let mut random = Random::new(SEED);
     let mut seen: BTreeMap<(u8, u64, u64), u32> = BTreeMap::new();
     for round in 0..4 {
-        for all in [wrong_lengths(&mut random), damaged_vehicles(&mut random)] {
+        let of_version = [wrong_lengths(&mut random), wrong_weights(&mut random)];
+        for all in of_version.into_iter().chain([damaged_vehicles(&mut random)]) {
             for Damaged { survey, vehicle, refusal } in all {
                 let answer = reference::judge(&survey, &vehicle).err();
                 assert_eq!(answer, Some(refusal), "seed {SEED:#x}, round {round}");

@@ -132,7 +132,8 @@ fn the_twin_refuses_records_out_of_order_versions_and_lengths() {
     let mut random = Random::new(0x771b);
     let of_files = [misplaced_surveys(&mut random), wrong_versions(&mut random)];
     let of_vehicles = [damaged_vehicles(&mut random), wrong_lengths(&mut random)];
-    for all in of_files.into_iter().chain(of_vehicles) {
+    let of_weight = [wrong_weights(&mut random)];
+    for all in of_files.into_iter().chain(of_vehicles).chain(of_weight) {
         for Damaged { survey, vehicle, refusal } in all {
             assert_eq!(twin::judge(&survey, &vehicle), Err(refusal));
         }

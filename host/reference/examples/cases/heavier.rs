@@ -2,7 +2,9 @@
 //! of both versions, and the converter: both ways, every refusal, outputs of every length.
 
 use crate::records::*;
-use reference::generate::{joined, length, with_version, AxleWords, VehicleWords, HEAVY_EDGES};
+use reference::generate::{
+    joined, length, with_version, AxleWords, VehicleWords, HEAVY_EDGES, NO_WEIGHTS,
+};
 use reference::layout::*;
 use reference::script::Script;
 
@@ -80,8 +82,7 @@ fn axles(script: &mut Script) {
     };
     for place in [0, 1] {
         script.title(&format!("version 2, axle {} of 2", place + 1));
-        let beyond = [0, 200_001, 262_144, 262_145, 16_777_217, 0x8000_0001, u32::MAX];
-        let weights = HEAVY_EDGES.iter().chain(&beyond);
+        let weights = HEAVY_EDGES.iter().chain(&NO_WEIGHTS);
         weights.for_each(|&weight| script.vehicle(&with(2, place, 0, weight)));
         let distances = [0, 1, 2000, 2001, 65535].iter();
         distances.for_each(|&apart| script.vehicle(&with(2, place, 1, apart)));

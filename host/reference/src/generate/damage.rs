@@ -2,7 +2,7 @@
 
 use super::order::{some_order, with_version, NO_VERSIONS};
 use super::survey::survey_bytes_of;
-use super::vehicle::{vehicle, vehicle_bytes, VehicleWords};
+use super::vehicle::{vehicle, vehicle_bytes, VehicleWords, NO_WEIGHTS};
 use super::{Random, Spread};
 use crate::layout::*;
 
@@ -116,8 +116,7 @@ pub(super) fn no_weight(random: &mut Random, version: u16) -> u32 {
     let lower_half = random.large(1, 60000);
     let exchanged = random.large(1, least - 1);
     match random.below(6) {
-        0 => 0,
-        1 => least,
+        0 | 1 => *random.pick(&NO_WEIGHTS),
         2 => random.large(4, 0xffff) << 16 | lower_half,
         3 => exchanged.rotate_left(16).max(least),
         4 => exchanged.swap_bytes().max(least),

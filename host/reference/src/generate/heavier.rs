@@ -3,8 +3,10 @@
 
 use super::damage::{damage_vehicle, of_other_version, spoil, VehicleDamage};
 use super::order::{with_version, NO_VERSIONS};
-use super::vehicle::{fitting_vehicle, vehicle_bytes, vehicle_of, VehicleWords, VERSIONS};
-use super::{full_survey, survey_bytes, Damaged, Random, Spread};
+use super::vehicle::{
+    fitting_vehicle, vehicle_bytes, vehicle_of, VehicleWords, NO_WEIGHTS, VERSIONS,
+};
+use super::{full_survey, survey, survey_bytes, Damaged, Random, Spread};
 use crate::layout::{axle_bytes, heaviest, HEAVY_AXLES, LIGHT_AXLES};
 use crate::reader::{File, Refused, VEHICLE_HEADER};
 
@@ -31,6 +33,21 @@ pub fn wrong_lengths(random: &mut Random) -> Vec<Damaged> {
         for vehicle in lengths.into_iter().chain([of_other_version(&sound)]) {
             all.push(Damaged { survey: survey.clone(), vehicle, refusal });
         }
+    }
+    all
+}
+
+/// Vehicles of 16 axles of version 2 with each weight that it does not have, at each axle; the survey is
+/// sound.
+pub fn wrong_weights(random: &mut Random) -> Vec<Damaged> {
+    let survey = survey_bytes(&survey(random, Spread::Wide, 1));
+    let sound = vehicle_of(random, HEAVY_AXLES, Spread::Wide, 16);
+    let mut all = Vec::new();
+    for (weight, i) in NO_WEIGHTS.into_iter().flat_map(|weight| (0..16).map(move |i| (weight, i))) {
+        let mut words = sound.clone();
+        words.axles[i][0] = weight;
+        let refusal = Refused { file: File::Vehicle, number: 7, place: i as u64 + 1 };
+        all.push(Damaged { survey: survey.clone(), vehicle: vehicle_bytes(&words), refusal });
     }
     all
 }

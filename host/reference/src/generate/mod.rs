@@ -27,7 +27,7 @@ pub use damage::{any_bytes, some_damage};
 pub use disorder::{disorder, Disorder};
 pub use heavier::{
     damaged_conversions, length, other_version, some_conversion, sound_conversion, wrong_lengths,
-    Conversion, DamagedConversion,
+    wrong_weights, Conversion, DamagedConversion,
 };
 pub use order::{
     alike_survey, any_survey, full_survey_file, in_order, misplace, misplaced_surveys, one_before,
@@ -39,7 +39,7 @@ pub use survey::{full_survey, survey, survey_bytes, survey_bytes_of, Spread};
 pub use tie::at_a_tie;
 pub use vehicle::{
     fits, fitting_vehicle, vehicle, vehicle_bytes, vehicle_of, AxleWords, VehicleWords,
-    HEAVY_EDGES, VERSIONS,
+    HEAVY_EDGES, NO_WEIGHTS, VERSIONS,
 };
 pub use worse::{matched_survey, two_vehicles, worse_survey, Matched, Wear};
 pub use yard::{damaged_yards, joined, some_yard_damage, yard, yard_bytes, DamagedYard};

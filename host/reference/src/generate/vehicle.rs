@@ -23,6 +23,11 @@ pub const VERSIONS: [u16; 2] = [LIGHT_AXLES, HEAVY_AXLES];
 pub const HEAVY_EDGES: [u32; 9] =
     [1, 59_999, 60_000, 60_001, 65_535, 65_536, 131_072, 199_999, 200_000];
 
+/// Weights that version 2 does not have: next to its ends; such whose lower half, whose three lower bytes
+/// or whose halves exchanged would be within its range; and the greatest.
+pub const NO_WEIGHTS: [u32; 8] =
+    [0, 200_001, 4 << 16, 4 << 16 | 1, 5 << 16, 1 << 24 | 70_000, 1 << 31 | 1, u32::MAX];
+
 /// A weight from the whole range of this version, its edges often.
 fn wide_weight(random: &mut Random, version: u16) -> u32 {
     match version {
