@@ -81,8 +81,8 @@ fn axles(bytes: &[u8], version: u16) -> Vec<Axle> {
     behind.chunks_exact(layout.bytes()).map(axle).collect()
 }
 
-/// The vehicle that stands in the bytes of a vehicle file, whatever its count says; None where it is
-/// shorter than its header. A version that no vehicle has is read as the first.
+/// The vehicle that stands in the bytes of a vehicle file, whatever its count says; None where it
+/// is shorter than its header. A version that no vehicle has is read as the first.
 pub fn vehicle(bytes: &[u8]) -> Option<Vehicle> {
     let [_, _, _, low, high, class, track @ .., _] = bytes.first_chunk::<VEHICLE_HEADER>()?;
     let version = u16::from_le_bytes([*low, *high]);
@@ -97,7 +97,8 @@ pub fn join_yard<T: AsRef<[u8]>>(vehicles: &[T]) -> Option<Vec<u8>> {
     Some(yard)
 }
 
-/// How long a vehicle file is by its own version and count; None where it is shorter than its header.
+/// How long a vehicle file is by its own version and count; None where it is shorter than its
+/// header.
 fn vehicle_length(bytes: &[u8]) -> Option<usize> {
     let [_, _, _, low, high, .., axles] = bytes.first_chunk::<VEHICLE_HEADER>()?;
     let axle = AxleLayout::of(u16::from_le_bytes([*low, *high])).bytes();
@@ -105,8 +106,8 @@ fn vehicle_length(bytes: &[u8]) -> Option<usize> {
 }
 
 /// The vehicle files of a yard: as many as its first byte says, each as long as its own version and
-/// count say, or all that is left where that is fewer. None where there is no such byte, or it says that there
-/// are none or more than a yard holds.
+/// count say, or all that is left where that is fewer. None where there is no such byte, or it says
+/// that there are none or more than a yard holds.
 pub fn split_yard(yard: &[u8]) -> Option<Vec<&[u8]>> {
     let (count, mut left) = yard.split_first()?;
     let mut files = Vec::new();
@@ -156,8 +157,8 @@ impl Contents {
         }
     }
 
-    /// The file's bytes; None where its count or class is above what a byte holds, or a number of an axle
-    /// above what its bytes do.
+    /// The file's bytes; None where its count or class is above what a byte holds, or a number of
+    /// an axle above what its bytes do.
     pub fn bytes(&self) -> Option<Vec<u8>> {
         let count = u8::try_from(self.count()).ok()?;
         let mut bytes = self.which().layout().mark.to_vec();

@@ -117,7 +117,9 @@ impl Refusal {
                 "a field that the kind or the section does not use is not 0, \
                  or a beam in bending has lost area"
             }
-            (TOO_SHORT, Which::Vehicle) => "the output is too short for the file in the other version",
+            (TOO_SHORT, Which::Vehicle) => {
+                "the output is too short for the file in the other version"
+            }
             (15, Which::Survey) if self.place == 0 => {
                 "the two surveys have different counts of members"
             }

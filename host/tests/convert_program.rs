@@ -1,6 +1,6 @@
-//! The converter of vehicle files against the reference: scripts of tens of thousands of conversions
-//! between other calls through the program `cases`, every line equal; there and back by the program's
-//! own bytes; and vehicles that it rates alike in both versions.
+//! The converter of vehicle files against the reference: scripts of tens of thousands of
+//! conversions between other calls through the program `cases`, every line equal; there and back by
+//! the program's own bytes; and vehicles that it rates alike in both versions.
 
 mod common;
 
@@ -34,8 +34,8 @@ impl Conversions {
         *self.seen.entry((*wanted, answer)).or_default() += 1;
     }
 
-    /// A vehicle in both versions loaded and judged, and converted there and back: from version 1 and
-    /// from version 2 by turns.
+    /// A vehicle in both versions loaded and judged, and converted there and back: from version 1
+    /// and from version 2 by turns.
     fn both_versions(&mut self, random: &mut Random, turn: usize) {
         let (spread, axles) = (spread(random), 1 + random.below(5));
         let heavy = fitting_vehicle(random, spread, axles);
@@ -52,8 +52,8 @@ impl Conversions {
         }
     }
 
-    /// A sound conversion, one that is refused, one of any file; in each fourth round both versions of
-    /// a vehicle. The ways and the refusals take turns.
+    /// A sound conversion, one that is refused, one of any file; in each fourth round both versions
+    /// of a vehicle. The ways and the refusals take turns.
     fn round(&mut self, random: &mut Random, damaged: &[DamagedConversion]) {
         let turn = usize::try_from(self.rounds).expect("a number of rounds");
         self.convert(&sound_conversion(random, turn), None);

@@ -241,8 +241,8 @@ impl Seen {
     }
 }
 
-/// One pair of worse files, whatever the places. The four pairs of the surveys' versions take turns by
-/// the seed, and with each of them those of the vehicles.
+/// One pair of worse files, whatever the places. The four pairs of the surveys' versions take turns
+/// by the seed, and with each of them those of the vehicles.
 fn matched_pair(seen: &mut Seen, random: &mut Random, members: &[Words], more: usize, seed: u64) {
     let axles = 1 + random.below(6);
     let turn = (&mut *random, seed / 4);

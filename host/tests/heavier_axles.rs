@@ -1,6 +1,6 @@
-//! Vehicles of version 2, whose axles weigh up to 200,000 kgf: the heading of the text form, the limits
-//! of a weight by version, the words for refusals 2, 7, 14 and 17, and `tbr` on such vehicles. The text
-//! form asks for what the library asks for.
+//! Vehicles of version 2, whose axles weigh up to 200,000 kgf: the heading of the text form, the
+//! limits of a weight by version, the words for refusals 2, 7, 14 and 17, and `tbr` on such
+//! vehicles. The text form asks for what the library asks for.
 
 mod cli;
 mod common;
@@ -93,8 +93,8 @@ fn weights_beside_a_wrong_version() {
     }
 }
 
-/// The text form has a fault for just those vehicles that the library refuses, the first of them at the
-/// same axle and field; the versions take turns.
+/// The text form has a fault for just those vehicles that the library refuses, the first of them at
+/// the same axle and field; the versions take turns.
 #[test]
 fn the_text_form_asks_for_the_librarys_limits() {
     let seed = common::seed(0x09ea_2001);
@@ -211,15 +211,15 @@ fn the_trailer_by_the_command_line() {
     assert_eq!((status, &lines[..]), (0, &expected[..]));
     let (status, back, _) = run(&["make", "--back", &made]);
     assert_eq!(status, 0);
-    assert!(back.starts_with("vehicle, version 2, class tractor, track 270 cm\naxle, weight 72500"));
+    assert!(back.starts_with("vehicle, version 2, class tractor, track 270 cm\naxle, "), "{back}");
     assert_eq!(read(back.as_bytes()), read(text("transformer-trailer.txt").as_bytes()));
     let judged = run(&["judge", "forest-road.tbr", "transformer-trailer.tbv"]);
     assert_eq!(judged, run(&["judge", "forest-road.tbr", "transformer-trailer.txt"]));
     assert_eq!(judged.0, 1);
 }
 
-/// The lorry in both versions gets the same answer; without its version the trailer's text is wrong at
-/// each of its axles, and a version that no vehicle has is named.
+/// The lorry in both versions gets the same answer; without its version the trailer's text is wrong
+/// at each of its axles, and a version that no vehicle has is named.
 #[test]
 fn versions_by_the_command_line() {
     let folder = Folder::new("versions");

@@ -12,7 +12,8 @@ use std::collections::BTreeMap;
 const PAIRS: u64 = 100_000;
 
 /// Files for the library: most are small, as brute force is dear; one in 400 is of the largest. The
-/// sorts take turns by the seed, and so do the versions of the vehicle in those that are not damaged.
+/// sorts take turns by the seed, and so do the versions of the vehicle in those that are not
+/// damaged.
 fn pair(seed: u64) -> (Vec<u8>, Vec<u8>) {
     let random = &mut Random::new(seed);
     let spread = if random.once_in(3) { Spread::Wide } else { Spread::Usual };
@@ -72,8 +73,8 @@ fn the_library_answers_as_the_reference() {
     assert!(heavy >= PAIRS / 4, "{heavy} vehicles of version 2");
 }
 
-/// "A vehicle rates alike in both versions", and as the reference has it; then with an axle that only
-/// version 2 holds.
+/// "A vehicle rates alike in both versions", and as the reference has it; then with an axle that
+/// only version 2 holds.
 #[test]
 fn both_versions_of_a_vehicle_rate_alike() {
     let first = seed(0x7b2_0007);
@@ -93,7 +94,8 @@ fn both_versions_of_a_vehicle_rate_alike() {
     }
 }
 
-/// Each edge of a weight of four bytes, at each axle, and 16 such axles close together, on every kind.
+/// Each edge of a weight of four bytes, at each axle, and 16 such axles close together, on every
+/// kind.
 #[test]
 fn weights_at_the_edges() {
     let seed = seed(0x7b2_0008);
@@ -183,8 +185,8 @@ fn numbers_at_the_edges() {
     }
 }
 
-/// One damage in each way at each place of the largest files, versions that no file has, and lengths
-/// that its version does not have.
+/// One damage in each way at each place of the largest files, versions that no file has, and
+/// lengths that its version does not have.
 #[test]
 fn refusals_at_every_place() {
     let first = seed(0x7b2_0005);

@@ -61,8 +61,8 @@ fn refused_files() {
     }
 }
 
-/// Records out of order in each way, versions that no file has, and of a vehicle every axle damaged,
-/// lengths that its version does not have and weights that version 2 does not.
+/// Records out of order in each way, versions that no file has, and of a vehicle every axle
+/// damaged, lengths that its version does not have and weights that version 2 does not.
 #[test]
 fn refused_orders_versions_and_vehicles() {
     let seed = seed(0xb41_0005);

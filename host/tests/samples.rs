@@ -101,9 +101,9 @@ fn the_ordered_bridge_bears_the_lorry() {
     }
 }
 
-/// Version 2: every group of axles weighs more than version 1 holds. The bridge of the forest road is far
-/// from bearing it, and the plates have the figure of class 1 and of the wider track; with a twentieth
-/// of the weight in the same file it is borne.
+/// Version 2: every group of axles weighs more than version 1 holds. The bridge of the forest road
+/// is far from bearing it, and the plates have the figure of class 1 and of the wider track; with a
+/// twentieth of the weight in the same file it is borne.
 #[test]
 fn the_forest_road_bridge_does_not_bear_the_trailer() {
     let (survey, trailer) = (sample("forest-road.tbr"), sample("transformer-trailer.tbv"));

@@ -136,8 +136,8 @@ fn the_library_answers_as_the_reference() {
     assert!(several >= 300, "different members govern in {several} yards");
 }
 
-/// Yards in which the versions take turns, from either on: sound ones, and such with one vehicle that
-/// says the other version, so that the next begins elsewhere, or with the last cut by a byte.
+/// Yards in which the versions take turns, from either on: sound ones, and such with one vehicle
+/// that says the other version, so that the next begins elsewhere, or with the last cut by a byte.
 #[test]
 fn yards_of_both_versions() {
     const YARDS: u64 = 10_000;

@@ -1,5 +1,5 @@
-//! The converter of vehicle files, request 9 of document 02: "A converter goes from 1 to 2 with every
-//! number kept, and back where each weight fits".
+//! The converter of vehicle files, request 9 of document 02: "A converter goes from 1 to 2 with
+//! every number kept, and back where each weight fits".
 
 use crate::layout::{heaviest, HEAVY_AXLES, LIGHT_AXLES};
 use crate::reader::{self, Axle, File, Refused, Vehicle};
@@ -14,8 +14,8 @@ fn weight(axle: &Axle, version: u16) -> Option<Vec<u8>> {
     fits.then_some(bytes)
 }
 
-/// The file of this vehicle in this version, or "place of the first such axle" whose weight does not
-/// fit.
+/// The file of this vehicle in this version, or "place of the first such axle" whose weight does
+/// not fit.
 pub fn written(vehicle: &Vehicle, version: u16) -> Result<Vec<u8>, u64> {
     let mut bytes = b"TBV".to_vec();
     bytes.extend(version.to_le_bytes());
@@ -30,8 +30,8 @@ pub fn written(vehicle: &Vehicle, version: u16) -> Result<Vec<u8>, u64> {
 }
 
 /// The bytes that are written for a file and the version that is wanted, 1 or 2, into an output of
-/// so many bytes. "The wrong version for the way asked gives 2, at that refusal's usual place"; then
-/// 17, "after the file is accepted"; "an output too short gives 14, last".
+/// so many bytes. "The wrong version for the way asked gives 2, at that refusal's usual place";
+/// then 17, "after the file is accepted"; "an output too short gives 14, last".
 pub fn convert(file: &[u8], wanted: u16, room: usize) -> Result<Vec<u8>, Refused> {
     let refused = |number, place| Refused { file: File::Vehicle, number, place };
     let from = if wanted == HEAVY_AXLES { LIGHT_AXLES } else { HEAVY_AXLES };

@@ -1,5 +1,6 @@
 //! The survey record: sixteen words, and for each kind and section which of them are used, within
-//! which limits, and which of them wear. What is used by neither is 0. And the versions of both files.
+//! which limits, and which of them wear. What is used by neither is 0. And the versions of both
+//! files.
 
 use crate::crescent;
 

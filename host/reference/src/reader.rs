@@ -51,8 +51,8 @@ pub struct Vehicle {
     pub axles: Vec<Axle>,
 }
 
-/// How a file begins: its mark, the bytes before the records, the most records, and the bytes of each
-/// in a version.
+/// How a file begins: its mark, the bytes before the records, the most records, and the bytes of
+/// each in a version.
 struct Form {
     mark: &'static [u8; 3],
     header: usize,
@@ -78,8 +78,8 @@ fn within(value: u16, least: u16, greatest: u16) -> bool {
     least <= value && value <= greatest
 }
 
-/// Tests 1 (too short for the header), 2 (another mark, or a version that is none of these), 3, 1 in
-/// that order; the version and the count where all are passed.
+/// Tests 1 (too short for the header), 2 (another mark, or a version that is none of these), 3, 1
+/// in that order; the version and the count where all are passed.
 fn header(bytes: &[u8], form: &Form, versions: &[u16]) -> Result<(u16, usize), u64> {
     if bytes.len() < form.header {
         return Err(1);

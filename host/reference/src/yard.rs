@@ -28,9 +28,9 @@ fn refused(file: File, number: u64) -> Refused {
     Refused { file, number, place: 0 }
 }
 
-/// "Each vehicle file is as long as its own counts say, or all that is left if fewer": the first
-/// of these bytes, and what is left behind it. Its version is in bytes 3 and 4, its count in byte 8;
-/// a file without one is short.
+/// "Each vehicle file is as long as its own counts say, or all that is left if fewer": the first of
+/// these bytes, and what is left behind it. Its version is in bytes 3 and 4, its count in byte 8; a
+/// file without one is short.
 pub fn first_file(left: &[u8]) -> (&[u8], &[u8]) {
     let length = left.get(..VEHICLE_HEADER).map_or(left.len(), |header| {
         let version = u16::from_le_bytes([header[3], header[4]]);

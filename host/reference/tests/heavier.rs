@@ -1,5 +1,5 @@
-//! Heavier axles, by hand: both versions of a vehicle, their limits and lengths, yards of both, and the
-//! converter with its refusals in their order.
+//! Heavier axles, by hand: both versions of a vehicle, their limits and lengths, yards of both, and
+//! the converter with its refusals in their order.
 
 use reference::generate::*;
 use reference::layout::*;
@@ -201,13 +201,13 @@ fn yards_of_both_versions() {
         assert_eq!(said(&two[..length]), Err((1, 0)), "cut to {length}");
     }
     assert_eq!(said(&[&two[..], &[0]].concat()), Err((1, 0)), "a byte left over");
-    // Of version 2 with the bytes of version 1: where it stands last it is too short; else it takes four
-    // bytes of the next, and the second weight stands where the first distance should.
+    // Of version 2 with the bytes of version 1: where it stands last it is too short; else it takes
+    // four bytes of the next, and the second weight stands where the first distance should.
     let short = with_version(&light, 2);
     assert_eq!(said(&joined(&[light.clone(), short.clone()])), Err((1, 0)));
     assert_eq!(said(&joined(&[short, light.clone()])), Err((7, 1)));
-    // Of version 1 with the bytes of version 2: the upper half of the first weight is a distance of 0,
-    // and the second axle's weight is 0.
+    // Of version 1 with the bytes of version 2: the upper half of the first weight is a distance of
+    // 0, and the second axle's weight is 0.
     let long = with_version(&heavy, 1);
     assert_eq!(said(&joined(&[long, light])), Err((7, 2)));
 }
@@ -264,8 +264,8 @@ fn the_file_comes_before_17() {
     }
 }
 
-/// "The wrong version for the way asked gives 2, at that refusal's usual place": behind 1 for a short
-/// header, before 3, 1, 7, 17 and 14.
+/// "The wrong version for the way asked gives 2, at that refusal's usual place": behind 1 for a
+/// short header, before 3, 1, 7, 17 and 14.
 #[test]
 fn the_wrong_version() {
     for (wanted, own) in [(1, &LIGHT[..]), (2, &HEAVY), (2, &TRAILER)] {

@@ -1,6 +1,6 @@
-//! Heavier axles: what the request could be taken for. The right reading is worked a second time here,
-//! and the generated files, yards and conversions must show each wrong one; and what the generator
-//! makes.
+//! Heavier axles: what the request could be taken for. The right reading is worked a second time
+//! here, and the generated files, yards and conversions must show each wrong one; and what the
+//! generator makes.
 
 use reference::generate::*;
 use reference::layout::*;

@@ -106,8 +106,8 @@ enum Record {
     Axle(&'static [Field; 2], Axle),
 }
 
-/// An axle with what its fields may be: in its own version, and where it is too heavy to go back to the
-/// first, in that one.
+/// An axle with what its fields may be: in its own version, and where it is too heavy to go back to
+/// the first, in that one.
 fn axle(bytes: &[u8], number: u64, place: usize) -> Option<Record> {
     let vehicle = file::vehicle(bytes)?;
     let version = if number == TOO_HEAVY { FIRST_VERSION } else { vehicle.version };

@@ -102,8 +102,8 @@ impl Field {
         }
     }
 
-    /// Its number in a record; None where the record is too short to hold it. Most records hold words
-    /// of two bytes; the weight of an axle may have four.
+    /// Its number in a record; None where the record is too short to hold it. Most records hold
+    /// words of two bytes; the weight of an axle may have four.
     pub fn of<N: Copy + Into<u32>>(&self, words: &[N]) -> Option<u32> {
         words.get(self.word).map(|number| (*number).into())
     }

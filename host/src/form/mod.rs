@@ -13,8 +13,8 @@
 //! ```
 //! A survey is of version 1 with the heading `survey`, of version 2 with `survey, version 2`. From
 //! version 2 on its members stand in one order: by kind, then span or truss spacing, then spacing,
-//! each rising, and equals as they come. A vehicle is of version 1 with the heading `vehicle, ..`, of
-//! version 2 with `vehicle, version 2, ..`, whose axles may weigh more.
+//! each rising, and equals as they come. A vehicle is of version 1 with the heading `vehicle, ..`,
+//! of version 2 with `vehicle, version 2, ..`, whose axles may weigh more.
 //!
 //! `#` opens a comment; blank lines are passed over; the order within a line is free after its
 //! first words. A byte order mark, either end of line, any run of blanks and tabs, and a comma at

@@ -1,5 +1,5 @@
-//! Heavier axles: version 2 of a vehicle and every refusal of its reader, what is rated under it, yards
-//! of both versions, and the converter: both ways, every refusal, outputs of every length.
+//! Heavier axles: version 2 of a vehicle and every refusal of its reader, what is rated under it,
+//! yards of both versions, and the converter: both ways, every refusal, outputs of every length.
 
 use crate::records::*;
 use reference::generate::{
@@ -129,7 +129,8 @@ fn rated(script: &mut Script) {
     script.vehicle(&vehicle_of(&tractor));
     script.all(members.len());
     script.title("a weight that only four bytes hold decides");
-    // Over the apex of this chord, 200 cm from the support of 600, an axle gives a third of its weight.
+    // Over the apex of this chord, 200 cm from the support of 600, an axle gives a third of its
+    // weight.
     script.survey(&survey_of(&[with(usual(3, 2), &[(TRUSS_HEIGHT, 50)])]));
     for weight in [60_000, 65_536, 89_934, 89_935, 131_072] {
         script.vehicle(&trailer(&[[weight, 0]]));
@@ -218,7 +219,8 @@ fn there_and_back(script: &mut Script) {
     script.convert(TO_LIGHT, &heavy_l(), 160);
 }
 
-/// 2 where the version is the wrong one for the way asked, before 3 and 1, behind 1 for a short header.
+/// 2 where the version is the wrong one for the way asked, before 3 and 1, behind 1 for a short
+/// header.
 fn wrong_ways(script: &mut Script) {
     for (wanted, own) in [(TO_HEAVY, heavy_l()), (TO_LIGHT, light_l())] {
         script.title(&format!("a file that has version {wanted} already"));

@@ -106,8 +106,8 @@ pub fn damage_survey(random: &mut Random, words: &mut Words, damage: SurveyDamag
     true
 }
 
-/// A weight outside the range of this version. Many of version 2 have a lower half that would be within
-/// it, or bytes in another order.
+/// A weight outside the range of this version. Many of version 2 have a lower half that would be
+/// within it, or bytes in another order.
 pub(super) fn no_weight(random: &mut Random, version: u16) -> u32 {
     if version != HEAVY_AXLES {
         return outside(random, 1, 60000).into();
@@ -185,8 +185,8 @@ pub fn some_damage(random: &mut Random) -> (Vec<u8>, Vec<u8>) {
     (survey, vehicle)
 }
 
-/// A vehicle file with the other version in its header, where it has one: the length is still that of
-/// its own.
+/// A vehicle file with the other version in its header, where it has one: the length is still that
+/// of its own.
 pub(super) fn of_other_version(bytes: &[u8]) -> Vec<u8> {
     match bytes.get(3..5) {
         Some(&[version @ (1 | 2), 0]) => with_version(bytes, u16::from(3 - version)),

@@ -1,5 +1,5 @@
-//! What is wrong with a vehicle by its version alone, and conversions from one version to the other:
-//! sound ones, and such as are refused for every reason.
+//! What is wrong with a vehicle by its version alone, and conversions from one version to the
+//! other: sound ones, and such as are refused for every reason.
 
 use super::damage::{damage_vehicle, of_other_version, spoil, VehicleDamage};
 use super::order::{with_version, NO_VERSIONS};
@@ -18,8 +18,8 @@ pub fn other_version(version: u16) -> u16 {
     LIGHT_AXLES + HEAVY_AXLES - version
 }
 
-/// Vehicles of each version and every number of axles whose length is a byte or a word off, or that of
-/// the other version; the survey is sound.
+/// Vehicles of each version and every number of axles whose length is a byte or a word off, or that
+/// of the other version; the survey is sound.
 pub fn wrong_lengths(random: &mut Random) -> Vec<Damaged> {
     let survey = survey_bytes(&full_survey(random, Spread::Wide));
     let refusal = Refused { file: File::Vehicle, number: 1, place: 0 };
@@ -37,8 +37,8 @@ pub fn wrong_lengths(random: &mut Random) -> Vec<Damaged> {
     all
 }
 
-/// Vehicles of 16 axles of version 2 with each weight that it does not have, at each axle; the survey is
-/// sound.
+/// Vehicles of 16 axles of version 2 with each weight that it does not have, at each axle; the
+/// survey is sound.
 pub fn wrong_weights(random: &mut Random) -> Vec<Damaged> {
     let survey = survey_bytes(&survey(random, Spread::Wide, 1));
     let sound = vehicle_of(random, HEAVY_AXLES, Spread::Wide, 16);
@@ -111,8 +111,8 @@ fn too_heavy(random: &mut Random) -> u32 {
     *random.pick(&[FITS + 1, 65_535, 65_536, 65_537, 131_072, heaviest(HEAVY_AXLES), any])
 }
 
-/// 16 axles going back with a weight above 60,000 at this index, those before it light; often others
-/// behind it are too heavy too.
+/// 16 axles going back with a weight above 60,000 at this index, those before it light; often
+/// others behind it are too heavy too.
 fn heavy_at(random: &mut Random, i: usize) -> VehicleWords {
     let mut words = fitting_vehicle(random, Spread::Wide, 16);
     words.axles[i][0] = too_heavy(random);
@@ -135,8 +135,8 @@ fn faulty(random: &mut Random, wanted: u16, damage: VehicleDamage) -> (Vec<u8>, 
     (vehicle_bytes(&words), place)
 }
 
-/// A wrong version for the way asked, the one wanted among them; the count and the length may be wrong
-/// too.
+/// A wrong version for the way asked, the one wanted among them; the count and the length may be
+/// wrong too.
 fn of_wrong_version(random: &mut Random, wanted: u16) -> Vec<Vec<u8>> {
     let axles = 1 + random.below(16);
     let own = vehicle_bytes(&vehicle_of(random, wanted, Spread::Wide, axles));
@@ -149,8 +149,8 @@ fn of_wrong_version(random: &mut Random, wanted: u16) -> Vec<Vec<u8>> {
     all
 }
 
-/// Every refusal of the converter in this way: 1 for a short header, 2, 3, 1, 7 at each place, 17 at
-/// each place and 14, each with what comes later wrong as well.
+/// Every refusal of the converter in this way: 1 for a short header, 2, 3, 1, 7 at each place, 17
+/// at each place and 14, each with what comes later wrong as well.
 fn damaged(random: &mut Random, wanted: u16) -> Vec<DamagedConversion> {
     let mut all = Vec::new();
     let mut add = |random: &mut Random, file: Vec<u8>, number, place| {

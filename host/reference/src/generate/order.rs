@@ -193,8 +193,8 @@ pub fn with_version(bytes: &[u8], version: u16) -> Vec<u8> {
     [&bytes[..3], &version.to_le_bytes(), &bytes[5..]].concat()
 }
 
-/// Sound files but for their version: surveys whose records are in order or not, and vehicles of either
-/// version.
+/// Sound files but for their version: surveys whose records are in order or not, and vehicles of
+/// either version.
 pub fn wrong_versions(random: &mut Random) -> Vec<Damaged> {
     let (members, axles) = (1 + random.below(64), 1 + random.below(16));
     let survey = survey_bytes(&alike_survey(random, Spread::Wide, members));

@@ -18,13 +18,13 @@ pub struct VehicleWords {
 /// Both versions of a vehicle.
 pub const VERSIONS: [u16; 2] = [LIGHT_AXLES, HEAVY_AXLES];
 
-/// Weights of version 2 by which readings differ: both sides of what version 1 holds, of two bytes and
-/// of three, and the ends.
+/// Weights of version 2 by which readings differ: both sides of what version 1 holds, of two bytes
+/// and of three, and the ends.
 pub const HEAVY_EDGES: [u32; 9] =
     [1, 59_999, 60_000, 60_001, 65_535, 65_536, 131_072, 199_999, 200_000];
 
-/// Weights that version 2 does not have: next to its ends; such whose lower half, whose three lower bytes
-/// or whose halves exchanged would be within its range; and the greatest.
+/// Weights that version 2 does not have: next to its ends; such whose lower half, whose three lower
+/// bytes or whose halves exchanged would be within its range; and the greatest.
 pub const NO_WEIGHTS: [u32; 8] =
     [0, 200_001, 4 << 16, 4 << 16 | 1, 5 << 16, 1 << 24 | 70_000, 1 << 31 | 1, u32::MAX];
 

@@ -82,8 +82,8 @@ fn heavier(random: &mut Random, weight: u32, greatest: u32) -> u32 {
     }
 }
 
-/// The same axles in this version, which each weight fits, none lighter, and up to `more` others behind
-/// them.
+/// The same axles in this version, which each weight fits, none lighter, and up to `more` others
+/// behind them.
 fn worse_vehicle(
     random: &mut Random,
     first: &VehicleWords,
