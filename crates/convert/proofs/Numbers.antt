@@ -47,6 +47,9 @@ window bytes at n = take n (drop at bytes)
 pub windows : (bytes : List ℕ) (at n m : ℕ) → window bytes at n ++ window bytes (at + n) m ≡ window bytes at (n + m)
 windows bytes at n m = ap (λ (l : List ℕ). window bytes at n ++ take m l) (sym (drop-drop n at bytes)) ∙ sym (take-add n m (drop at bytes))
 
+pub beside : (bytes : List ℕ) (at n m : ℕ) (first last : List ℕ) → first ≡ window bytes at n → last ≡ window bytes (at + n) m → first ++ last ≡ window bytes at (n + m)
+beside bytes at n m first last e f = rw (e, f) (windows bytes at n m)
+
 -- what was read is written
 pub number-read : (bytes : List ℕ) → Bytes bytes → (width at : ℕ) → at + width ≤ length bytes → bytesOf width (numberAt width bytes at) ≡ window bytes at width
 number-read bytes small zero at h = refl

@@ -1,2 +1,4 @@
 pub mod VehicleBytes
 pub mod Convert
+pub mod Fault
+pub mod Claims

@@ -113,11 +113,11 @@ axle-is bytes i f h out =
 
 module _ (bytes : List ℕ) where
   -- the vehicle's axles are the file's
-  weight-is : (i : ℕ) → i < axlesOf bytes → weight (vehicleOf bytes .weights) i ≡ weightAt bytes i
+  pub weight-is : (i : ℕ) → i < axlesOf bytes → weight (vehicleOf bytes .weights) i ≡ weightAt bytes i
   weight-is i l =
       ap (λ (w : Kgf). w .0) (getD-padded (λ k. kgf (weightAt bytes k)) (axlesOf bytes) i (replicate (MOST-AXLES - axlesOf bytes) (kgf 0)) (kgf 0) l)
 
-  distance-is : (i : ℕ) → i < axlesOf bytes → distance (vehicleOf bytes .distances) i ≡ distanceAt bytes i
+  pub distance-is : (i : ℕ) → i < axlesOf bytes → distance (vehicleOf bytes .distances) i ≡ distanceAt bytes i
   distance-is i l =
       ap (λ (d : Cm). d .0) (getD-padded (λ k. centimetres (distanceAt bytes k)) (axlesOf bytes) i (replicate (MOST-AXLES - axlesOf bytes) (centimetres 0)) (centimetres 0) l)
 
