@@ -53,6 +53,11 @@ read-taken : (bytes : List ℕ) → AllowedVehicleFile bytes → _≡_ {A = Vehi
 unfolding readVehicleOf
 read-taken bytes a = rw (allowed-taken VEHICLE-VERSIONS bytes a)
 
+-- so files with the same numbers are read alike
+pub read-alike : (file file' : List ℕ) → AllowedVehicleFile file → AllowedVehicleFile file' → SameNumbers file file' → readVehicle file' ≡ readVehicle file
+read-alike file file' a a' same =
+    read-taken file' a' ∙ ap (λ v. record { answer = Taken; vehicle = v }) (same-vehicle file file' same) ∙ sym (read-taken file a)
+
 -- a file of one of the two versions is read among both
 either-version : (version : ℕ) (bytes : List ℕ) → In VEHICLE-VERSIONS version → AllowedVehicleOf (only version) bytes → AllowedVehicleFile bytes
 either-version version bytes h a =
@@ -97,9 +102,7 @@ module _ (wanted : Wanted) (file : List ℕ) (accepted : Accepted wanted file) (
 
   alike : readVehicle (output wanted file) ≡ readVehicle file
   alike =
-      read-taken (output wanted file) (either-version (wantedVersion wanted) (output wanted file) (wanted-version wanted) allowed) ∙
-      ap (λ v. record { answer = Taken; vehicle = v }) same ∙
-      sym (read-taken file (either-version (givenVersion wanted) file (given-version wanted) accepted))
+      read-alike file (output wanted file) (either-version (givenVersion wanted) file (given-version wanted) accepted) (either-version (wantedVersion wanted) (output wanted file) (wanted-version wanted) allowed) kept
 
   -- the way back gives the file again
   version-is : versionOf file ≡ wantedVersion (back wanted)

@@ -44,6 +44,8 @@ use Rattle.vehicles.proofs.Vehicles as vehicles
 use Rattle.between.specs.Fault.{no-vehicle}
 use Rattle.between.proofs.Pairs.{taken-survey-allowed, survey-members}
 use Rattle.between.proofs.Within.{record-at, counted}
+use Rattle.convert.specs.Claims.{written as converted-bytes}
+use Rattle.convert.proofs.Claims.{read-alike, convert-answered, convert-taken}
 use Rattle.session.specs.Answers.{Outcome, Values, WithMargin, RefusedAt, refusedBy, judgementAnswer}
 use Rattle.session.specs.Calls.{newSession, members, stateFault, rateFault, judgeFault, loadSurvey, loadVehicle, storedSurvey, storedVehicle, unlessFault, rate, judge, judgeList, loadFiles, thenJudge, judgeFiles}
 use Rattle.session.specs.Demands.{Demand1, Demand2, Demand3}
@@ -153,6 +155,7 @@ demand1 =
       between-no-vehicle = λ calls h first second list.
           between-answered (after newSession calls) first second list .named 12 0 (no-vehicle (rw (vehicle-stays newSession calls h)));
       between-answered = between-answered;
+      convert-answered = convert-answered;
     }
 
 files-answer : (survey vehicle : List ℕ) → AllowedSurveyFile survey → AllowedVehicleFile vehicle →
@@ -162,6 +165,11 @@ files-answer survey vehicle a b =
     let e = surveys.allowed-taken survey a in
     let f = vehicles.allowed-taken VEHICLE-VERSIONS vehicle b in
     rw (survey-load newSession survey e, vehicle-load (record { survey = surveyOf survey; vehicle = newSession .vehicle }) vehicle f, judge-ready (surveyOf survey .count) (vehicleOf vehicle .axles) 128 (omega (arith, a .count)) (omega (arith, b .vehicle .axles)) (omega (arith, a .count)))
+
+-- files that are read alike are loaded alike
+same-read : (s : Session) (file file' : List ℕ) → readVehicle file' ≡ readVehicle file → loadVehicle s file' ≡ loadVehicle s file
+unfolding loadVehicle
+same-read s file file' e = rw e
 
 pub demand2 : Demand2
 demand2 =
@@ -191,6 +199,9 @@ demand2 =
       files-judged = files-answer;
       yard-judged = yard-taken;
       between-judged = between-taken;
+      converted = convert-taken;
+      rates-alike = λ s file file' a a' same. same-read s file file' (read-alike file file' a a' same);
+      converted-alike = λ s wanted file out n w. same-read s file (converted-bytes wanted file out n) (convert-taken wanted file out .files n w .alike);
     }
 
 -- both loads of two files: where they are taken the survey is allowed, and is what the session then holds

@@ -1,5 +1,6 @@
 -- The three demands, each a record whose parts stand under the sentence that they state. proofs/Demands.antt proves each of them, of
--- the calls' definitions (Calls, Yard, Readings); the contracts of `Session` tie the code to those.
+-- the calls' definitions (Calls, Yard, Readings, and convert/specs/Convert.antt); the contracts of `Session` and of `convert` tie the code to
+-- those.
 use Prim.Native.Nat.{ℕ, _<_}
 use mathlib.Core.Path.{_≡_}
 use mathlib.Core.List.{List, [], _∷_}
@@ -21,6 +22,8 @@ use Rattle.files.specs.SurveyFile.{recordsOf, surveyOf}
 use Rattle.vehicles.specs.VehicleFile.{vehicleOf}
 use Rattle.files.specs.declared.Refusal.{Refusal}
 use Rattle.between.specs.declared.Between.{Between}
+use Rattle.convert.specs.Claims.{SameNumbers, Writes, written, ConvertAnswered, ConvertTaken}
+use Rattle.convert.specs.declared.Wanted.{Wanted}
 use Rattle.session.specs.Answers.{Values, RefusedAt, refusedBy, judgementAnswer}
 use Rattle.session.specs.Calls.{Valid, newSession, members, loadSurvey, loadVehicle, rate, judge, judgeList, judgeFiles}
 use Rattle.session.specs.History.{Call, LoadSurvey, LoadVehicle, after, TakesSurvey, TakesVehicle, NoneTakes, LastTakes, TakenLast, Holds}
@@ -69,6 +72,8 @@ pub record Demand1 : Type 0 where
   pub between-no-vehicle : (calls : List Call) → NoneTakes TakesVehicle newSession calls → (first second list : List ℕ) →
       judgeBetween (after newSession calls) first second list .answer ≡ RefusedAt 12 0
   pub between-answered : (s : Session) (first second list : List ℕ) → BetweenAnswered s first second list
+  -- and of the converter, request 9/13, which needs no session
+  pub convert-answered : (wanted : Wanted) (file out : List ℕ) → ConvertAnswered wanted file out
 
 -- Demand 2.
 pub record Demand2 : Type 0 where
@@ -92,6 +97,14 @@ pub record Demand2 : Type 0 where
   pub yard-judged : (s : Session) → Valid s → (yard : List ℕ) (list : List Entry) → YardTaken s yard list
   -- and of two readings, request 5/13: the bounds and the verdict are those of the two surveys, each loaded
   pub between-judged : (s : Session) (first second list : List ℕ) → BetweenTaken s first second list
+  -- request 9/13: bytes are written exactly when the request allows it, "with every number kept", and "there and back gives the same bytes"
+  pub converted : (wanted : Wanted) (file out : List ℕ) → ConvertTaken wanted file out
+  -- "A vehicle rates alike in both versions.": of two files with the same numbers, whatever their versions, the same vehicle is held and the load
+  -- answers alike, so that every call after it does; and so of a file and what is written of it
+  pub rates-alike : (s : Session) (file file' : List ℕ) → AllowedVehicleFile file → AllowedVehicleFile file' → SameNumbers file file' →
+      loadVehicle s file' ≡ loadVehicle s file
+  pub converted-alike : (s : Session) (wanted : Wanted) (file out : List ℕ) (n : ℕ) → Writes wanted file out n →
+      loadVehicle s (written wanted file out n) ≡ loadVehicle s file
 
 -- Demand 3.
 pub record Demand3 : Type 0 where
