@@ -110,6 +110,34 @@ fn a_member_that_bears_nothing_uses_null() {
     assert!(printed.contains("\"permitted\": 0, \"vehicle\": 1200, \"used\": null"), "{printed}");
 }
 
+/// A vehicle of version 2: its own limits, and in version 1 what version 2 takes.
+#[test]
+fn refused_weights_of_both_versions() {
+    let folder = Folder::new("json-heavy");
+    let mut heavy = sample("transformer-trailer.tbv");
+    heavy[9..13].copy_from_slice(&200_001_u32.to_le_bytes());
+    let mut light = sample("lorry.tbv");
+    light[9..11].copy_from_slice(&60_001_u16.to_le_bytes());
+    for (bytes, problem) in [
+        (heavy, "200001 is outside 1 to 200000 kgf"),
+        (light, "60001 is outside 1 to 60000 kgf; version 2 takes up to 200000 kgf"),
+    ] {
+        let file = folder.file("refused.tbv", bytes);
+        let message = format!("vehicle refused, number 7 at axle 1: weight: {problem}");
+        let (status, printed, error) = run(&["judge", "--json", "case-a.tbr", &file]);
+        assert_eq!((status, error.as_str()), (2, ""));
+        let fault = format!(
+            "\"number\": 7, \"place\": 1, \"faults\": [{{\"line\": null, \"field\": \"weight\", \
+             \"problem\": \"{problem}\"}}], \"message\": \"{message}\""
+        );
+        assert!(is_json(&printed) && printed.contains(&fault), "{printed}");
+        let (status, printed, error) = run(&["judge", "--csv", "case-a.tbr", &file]);
+        assert_eq!((status, error.as_str()), (2, ""));
+        let line = format!("case-a.tbr,{file},error,,,,,{file},7,1,\"{message}\"\n");
+        assert!(printed.ends_with(&line), "{printed}");
+    }
+}
+
 /// Refusals stand in the object, and standard error is empty.
 #[test]
 fn json_of_refused_files() {

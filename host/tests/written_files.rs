@@ -82,6 +82,22 @@ fn another_file_only_by_force() {
     assert_eq!(folder.names(), ["notes.txt", "old.tbr"], "nothing else is left");
 }
 
+const TRAILER: &str = "transformer-trailer.tbv";
+
+/// A vehicle replaces another, of whatever versions.
+#[test]
+fn vehicles_of_both_versions_replace_each_other() {
+    let folder = Folder::new("replaced");
+    for (old, new) in [("lorry", "transformer-trailer"), ("transformer-trailer", "lorry")] {
+        let [old_file, new_file] = [old, new].map(|name| sample(&format!("{name}.tbv")));
+        let file = folder.file("old.tbv", &old_file);
+        not_written(&["make", &format!("{new}.txt"), &file], "--force writes over it");
+        assert_eq!(fs::read(&file).unwrap(), old_file);
+        assert_eq!(run(&["make", "--force", &format!("{new}.txt"), &file]).0, 0);
+        assert_eq!(fs::read(&file).unwrap(), new_file);
+    }
+}
+
 /// Not even by force, be they files or text forms.
 #[test]
 fn a_vehicle_does_not_replace_a_survey() {
@@ -91,6 +107,10 @@ fn a_vehicle_does_not_replace_a_survey() {
         ("case-a.txt", "lorry.txt", "lorry.tbv", "this is a survey; a vehicle does not"),
         ("lorry.tbv", "case-a.txt", "case-a.tbr", "this is a vehicle; a survey does not"),
         ("lorry.txt", "case-a.txt", "case-a.tbr", "this is a vehicle; a survey does not"),
+        (TRAILER, "case-a.txt", "case-a.tbr", "this is a vehicle; a survey does not"),
+        ("transformer-trailer.txt", "ordered.txt", "ordered.tbr", "this is a vehicle; a survey"),
+        ("ordered.tbr", "transformer-trailer.txt", TRAILER, "this is a survey; a vehicle does not"),
+        ("yard.tby", "transformer-trailer.txt", TRAILER, "this is a yard; a vehicle does not"),
     ] {
         let old = folder.file("old", sample(other));
         not_written(&["make", "--force", from, &old], what);

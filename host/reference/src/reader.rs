@@ -184,7 +184,8 @@ fn axle(record: &[u8], version: u16) -> Axle {
     Axle { weight, distance: word(distance, 0) }
 }
 
-/// The same where only these versions are allowed.
+/// A vehicle file's class, track and axles, where only these versions are allowed: any other is
+/// refusal 2.
 fn vehicle_of(bytes: &[u8], versions: &[u16]) -> Result<Vehicle, Refused> {
     let refused = |number, place| Refused { file: File::Vehicle, number, place };
     let (version, count) =
@@ -206,12 +207,12 @@ fn vehicle_of(bytes: &[u8], versions: &[u16]) -> Result<Vehicle, Refused> {
     Ok(Vehicle { class, track, axles })
 }
 
-/// A vehicle file's class, track and axles: "Both versions are read."
+/// "Both versions are read."
 pub fn vehicle(bytes: &[u8]) -> Result<Vehicle, Refused> {
     vehicle_of(bytes, &VEHICLE_VERSIONS)
 }
 
-/// The same where only this version is allowed, as the converter has it: any other is refusal 2.
+/// Only this version is read, the one that a converter goes from.
 pub fn vehicle_of_version(bytes: &[u8], version: u16) -> Result<Vehicle, Refused> {
     vehicle_of(bytes, &[version])
 }

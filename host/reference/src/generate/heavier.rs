@@ -10,9 +10,6 @@ use super::{full_survey, survey, survey_bytes, Damaged, Random, Spread};
 use crate::layout::{axle_bytes, heaviest, HEAVY_AXLES, LIGHT_AXLES};
 use crate::reader::{File, Refused, VEHICLE_HEADER};
 
-/// The greatest weight that goes back to version 1.
-const FITS: u32 = 60_000;
-
 /// The other of the two versions.
 pub fn other_version(version: u16) -> u16 {
     LIGHT_AXLES + HEAVY_AXLES - version
@@ -107,8 +104,9 @@ fn any_room(random: &mut Random) -> usize {
 
 /// A weight that version 1 has no room for.
 fn too_heavy(random: &mut Random) -> u32 {
-    let any = random.large(FITS + 1, heaviest(HEAVY_AXLES));
-    *random.pick(&[FITS + 1, 65_535, 65_536, 65_537, 131_072, heaviest(HEAVY_AXLES), any])
+    let (least, greatest) = (heaviest(LIGHT_AXLES) + 1, heaviest(HEAVY_AXLES));
+    let any = random.large(least, greatest);
+    *random.pick(&[least, 65_535, 65_536, 65_537, 131_072, greatest, any])
 }
 
 /// 16 axles going back with a weight above 60,000 at this index, those before it light; often

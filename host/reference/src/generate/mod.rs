@@ -38,8 +38,8 @@ pub use random::Random;
 pub use survey::{full_survey, survey, survey_bytes, survey_bytes_of, Spread};
 pub use tie::at_a_tie;
 pub use vehicle::{
-    fits, fitting_vehicle, vehicle, vehicle_bytes, vehicle_of, AxleWords, VehicleWords,
-    HEAVY_EDGES, NO_WEIGHTS, VERSIONS,
+    fitting_vehicle, vehicle, vehicle_bytes, vehicle_of, AxleWords, VehicleWords, HEAVY_EDGES,
+    NO_WEIGHTS, VERSIONS,
 };
 pub use worse::{matched_survey, two_vehicles, worse_survey, Matched, Wear};
 pub use yard::{damaged_yards, joined, some_yard_damage, yard, yard_bytes, DamagedYard};

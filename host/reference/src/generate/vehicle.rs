@@ -65,11 +65,6 @@ pub fn fitting_vehicle(random: &mut Random, spread: Spread, count: usize) -> Veh
     VehicleWords { version: HEAVY_AXLES, ..light }
 }
 
-/// Does each weight fit this version?
-pub fn fits(vehicle: &VehicleWords, version: u16) -> bool {
-    vehicle.axles.iter().all(|axle| axle[0] <= heaviest(version))
-}
-
 /// The file of this vehicle; a weight of version 1 is one of two bytes.
 pub fn vehicle_bytes(vehicle: &VehicleWords) -> Vec<u8> {
     let mut bytes = b"TBV".to_vec();
