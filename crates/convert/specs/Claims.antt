@@ -1,4 +1,4 @@
--- What is claimed of the converter, each part under the sentence of document 02, request 9/13, that it states. session/specs/Demands.antt has
+-- What is claimed of the converter, each part under the sentence of document 02, request 9/13, that it states. demands/specs/Demands.antt has
 -- it of all bytes, both ways and every output.
 use Prim.Native.Nat.{ℕ, _≤_, _<_}
 use mathlib.Core.Path.{_≡_}

@@ -15,7 +15,7 @@ use Rattle.session.specs.Calls.{loadFiles, judge, judgeList}
 use Rattle.session.specs.declared.AfterJudge.{AfterJudge}
 use Rattle.session.specs.declared.AfterLoad.{AfterLoad}
 use Rattle.session.specs.declared.Session.{Session}
-use Rattle.session.proofs.Demands.{demand1, files-held}
+use Rattle.demands.proofs.Demands.{demand1, files-held}
 use Rattle.exports.specs.Loads.{loadsOf, memberLoads, memberList}
 use Rattle.exports.specs.declared.Loads.{Loads}
 

@@ -1,9 +1,5 @@
-pub mod Demands
-pub mod History
 pub mod Loads
 pub mod State
 pub mod YardRuns
 pub mod YardTests
 pub mod YardWritten
-pub mod YardLaws
-pub mod ReadingsLaws

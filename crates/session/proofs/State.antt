@@ -24,7 +24,6 @@ use Rattle.vehicles.proofs.Vehicles.{taken-vehicle-allowed}
 use Rattle.between.proofs.Pairs.{taken-survey-allowed}
 use Rattle.session.specs.Answers.{loaded, judged, judgeAnswer, refusedBy}
 use Rattle.session.specs.Calls.{Valid, newSession, stateFault, rateFault, judgeFault, loadSurvey, loadVehicle, rate, judge, judgeList, loadFiles, thenJudge}
-use Rattle.session.specs.Parts.{Answers}
 use Rattle.session.specs.declared.AfterJudge.{AfterJudge}
 use Rattle.session.specs.declared.AfterLoad.{AfterLoad}
 use Rattle.session.specs.declared.Session.{Session}
@@ -117,7 +116,7 @@ unfolding thenJudge
 load-judged o r t j = rw (t, ← j)
 
 -- no fault where both files are loaded and the place, or the list, is right
-rate-ready : (members axles place : ℕ) → 0 < members → 0 < axles → In (1 ‥ members) place → rateFault members axles place ≡ 0
+pub rate-ready : (members axles place : ℕ) → 0 < members → 0 < axles → In (1 ‥ members) place → rateFault members axles place ≡ 0
 unfolding rateFault stateFault
 rate-ready members axles place hm ha hp =
     rw (ne-eqb members 0 (omega arith), ne-eqb axles 0 (omega arith), range-in (1 ‥ members) place hp)
@@ -126,13 +125,3 @@ pub judge-ready : (members axles entries : ℕ) → 0 < members → 0 < axles �
 unfolding judgeFault stateFault
 judge-ready members axles entries hm ha he =
     rw (ne-eqb members 0 (omega arith), ne-eqb axles 0 (omega arith), le-leb (2 * members) entries he)
-
-pub all-answers : (s : Session) → 0 < s .survey .count → 0 < s .vehicle .axles → Answers s
-unfolding rate judge judgeList
-all-answers s hm ha =
-    record {
-      rated = λ i h.
-          rw (rate-ready (s .survey .count) (s .vehicle .axles) (i + 1) hm ha (omega arith), add-sub-cancel i 1);
-      judged = λ list h. rw (judge-ready (s .survey .count) (s .vehicle .axles) (length list) hm ha h);
-      listed = λ list h. rw (judge-ready (s .survey .count) (s .vehicle .axles) (length list) hm ha h);
-    }

@@ -2,9 +2,4 @@ pub mod Answers
 pub mod Calls
 pub mod Yard
 pub mod YardRun
-pub mod YardCall
 pub mod Readings
-pub mod History
-pub mod Parts
-pub mod ReadingsCall
-pub mod Demands

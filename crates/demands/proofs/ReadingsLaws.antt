@@ -23,14 +23,14 @@ use Rattle.between.proofs.Lists.{bounds-at, bounds-beyond, bounds-length}
 use Rattle.between.proofs.Named.{fault-refused, passed-good, good-passed, passed-or-fault}
 use Rattle.between.proofs.Pairs.{survey-members, Passed, passed-all, list-kept}
 use Rattle.between.proofs.Within.{record-at, low-in-order, high-in-order, ends-between, no-higher-load, no-higher-figure, stays-refused}
 use Rattle.session.specs.Answers.{Answer, Outcome, Values, RefusedAt, betweenNumber, valuesOf, verdictNumber}
 use Rattle.session.specs.Calls.{members, loadSurvey}
-use Rattle.session.specs.Parts.{permittedAt, judgementIn}
+use Rattle.demands.specs.Parts.{permittedAt, judgementIn}
 use Rattle.session.specs.Readings.{judgeBetween, boundsList}
-use Rattle.session.specs.ReadingsCall.{with, verdictWith, figureWith, Gives, lowestAt, highestAt, BetweenAnswered, BetweenFigures, BetweenTaken, WithinBounds, BetweenBounds}
+use Rattle.demands.specs.ReadingsCall.{with, verdictWith, figureWith, Gives, lowestAt, highestAt, BetweenAnswered, BetweenFigures, BetweenTaken, WithinBounds, BetweenBounds}
 use Rattle.session.specs.declared.Session.{Session}
 use Rattle.session.proofs.Loads.{never-both, survey-read, survey-load}
-use Rattle.session.proofs.State.{all-answers}
+use Rattle.demands.proofs.Answered.{all-answers}
 
 -- a survey that is loaded: its file's records, and the vehicle as it was
 module _ (s : Session) {survey : List ℕ} (a : AllowedSurveyFile survey) where

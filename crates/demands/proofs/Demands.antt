@@ -46,18 +46,19 @@ use Rattle.between.proofs.Pairs.{taken-survey-allowed, survey-members}
 use Rattle.between.proofs.Within.{record-at, counted}
 use Rattle.convert.specs.Claims.{written as converted-bytes}
 use Rattle.convert.proofs.Claims.{read-alike, convert-answered, convert-taken}
 use Rattle.session.specs.Answers.{Outcome, Values, WithMargin, RefusedAt, refusedBy, judgementAnswer}
 use Rattle.session.specs.Calls.{newSession, members, stateFault, rateFault, judgeFault, loadSurvey, loadVehicle, storedSurvey, storedVehicle, unlessFault, rate, judge, judgeList, loadFiles, thenJudge, judgeFiles}
-use Rattle.session.specs.Demands.{Demand1, Demand2, Demand3}
-use Rattle.session.specs.Parts.{FromState, RefusedBoth, Answers, FilesAnswered, Covers, Falls}
-use Rattle.session.specs.History.{Call, TakenLast, Holds, after}
-use Rattle.session.specs.YardCall.{no-survey}
+use Rattle.demands.specs.Demands.{Demand1, Demand2, Demand3}
+use Rattle.demands.specs.Parts.{FromState, RefusedBoth, Answers, FilesAnswered, Covers, Falls}
+use Rattle.demands.specs.History.{Call, TakenLast, Holds, after}
+use Rattle.demands.specs.YardCall.{no-survey}
 use Rattle.session.specs.declared.Session.{Session}
-use Rattle.session.proofs.History.{survey-stays, vehicle-stays, survey-last, last-held, in-turn, in-reverse, calls-valid}
+use Rattle.demands.proofs.History.{survey-stays, vehicle-stays, survey-last, last-held, in-turn, in-reverse, calls-valid}
 use Rattle.session.proofs.Loads.{no-refusal, never-both, survey-read, vehicle-read, survey-load, vehicle-load, survey-refused, vehicle-refused, other-survey}
-use Rattle.session.proofs.State.{valid-new, judge-ready, all-answers}
-use Rattle.session.proofs.ReadingsLaws.{between-answered, between-taken, between-bounds}
-use Rattle.session.proofs.YardLaws.{yard-answered, yard-taken}
+use Rattle.session.proofs.State.{valid-new, judge-ready}
+use Rattle.demands.proofs.Answered.{all-answers}
+use Rattle.demands.proofs.ReadingsLaws.{between-answered, between-taken, between-bounds}
+use Rattle.demands.proofs.YardLaws.{yard-answered, yard-taken}
 
 -- a fault is an answer from the state, or there is none
 fault-answer : (numbers : ℕ → Type 0) (n : ℕ) (values : List ℕ) (margin : ℤ) → (n ≡ 0) ⊎ numbers n → FromState numbers (unlessFault n (WithMargin values margin))

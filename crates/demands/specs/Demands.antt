@@ -24,15 +24,15 @@ use Rattle.files.specs.declared.Refusal.{Refusal}
 use Rattle.between.specs.declared.Between.{Between}
 use Rattle.convert.specs.Claims.{SameNumbers, Writes, written, ConvertAnswered, ConvertTaken}
 use Rattle.convert.specs.declared.Wanted.{Wanted}
 use Rattle.session.specs.Answers.{Values, RefusedAt, refusedBy, judgementAnswer}
 use Rattle.session.specs.Calls.{Valid, newSession, members, loadSurvey, loadVehicle, rate, judge, judgeList, judgeFiles}
-use Rattle.session.specs.History.{Call, LoadSurvey, LoadVehicle, after, TakesSurvey, TakesVehicle, NoneTakes, LastTakes, TakenLast, Holds}
-use Rattle.session.specs.Parts.{FromState, RefusedBoth, Answers, FilesAnswered, Margin, Governs, Covers, Falls, permittedAt, vehicleLoadAt, judgementIn}
+use Rattle.demands.specs.History.{Call, LoadSurvey, LoadVehicle, after, TakesSurvey, TakesVehicle, NoneTakes, LastTakes, TakenLast, Holds}
+use Rattle.demands.specs.Parts.{FromState, RefusedBoth, Answers, FilesAnswered, Margin, Governs, Covers, Falls, permittedAt, vehicleLoadAt, judgementIn}
 use Rattle.session.specs.Readings.{judgeBetween}
-use Rattle.session.specs.ReadingsCall.{Gives, BetweenAnswered, BetweenTaken, BetweenBounds}
+use Rattle.demands.specs.ReadingsCall.{Gives, BetweenAnswered, BetweenTaken, BetweenBounds}
 use Rattle.session.specs.Yard.{Entry, judgeYard}
-use Rattle.session.specs.YardCall.{YardAnswered, YardTaken}
+use Rattle.demands.specs.YardCall.{YardAnswered, YardTaken}
 use Rattle.session.specs.declared.Session.{Session}
 
 -- Demand 1. "Every call ends" is what the checker shows of every function that it accepts; the calls below are total.
 pub record Demand1 : Type 0 where

@@ -11,14 +11,14 @@ use Rattle.vehicles.specs.Allowed.{AllowedVehicleFile}
 use Rattle.files.proofs.Faults.{reading-case}
 use Rattle.files.proofs.Surveys as surveys
 use Rattle.vehicles.proofs.Vehicles as vehicles
 use Rattle.session.specs.Answers.{Outcome, Values}
 use Rattle.session.specs.Calls.{Valid, newSession, loadSurvey, loadVehicle, storedSurvey, storedVehicle, rate, judge}
-use Rattle.session.specs.History.{Call, LoadSurvey, LoadVehicle, Rate, Judge, JudgeYard, JudgeBetween, next, after, TakesSurvey, TakesVehicle, NoneTakes, LastTakes, here, further, TakenLast, Holds}
+use Rattle.demands.specs.History.{Call, LoadSurvey, LoadVehicle, Rate, Judge, JudgeYard, JudgeBetween, next, after, TakesSurvey, TakesVehicle, NoneTakes, LastTakes, here, further, TakenLast, Holds}
 use Rattle.session.specs.Readings.{judgeBetween}
 use Rattle.session.specs.Yard.{judgeYard}
 use Rattle.session.specs.declared.Session.{Session}
 use Rattle.session.proofs.Loads.{survey-read, vehicle-read, survey-load, vehicle-load, survey-left, vehicle-left, other-survey, other-vehicle}
 use Rattle.session.proofs.State.{valid-survey, valid-vehicle}
 
 -- a call that takes no survey leaves the survey, and so with the vehicle
 survey-next : (s : Session) (c : Call) → ¬ (TakesSurvey s c) → next s c .survey ≡ s .survey

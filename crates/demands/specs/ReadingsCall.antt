@@ -12,11 +12,11 @@ use Rattle.between.specs.Order.{LiesBetween}
 use Rattle.between.specs.Fault.{BetweenFault, MayBeJudged}
 use Rattle.between.specs.declared.Between.{Between}
 use Rattle.between.specs.declared.Between.the-variants.{All, None, Undecided}
 use Rattle.session.specs.Answers.{Values, RefusedAt, betweenNumber}
 use Rattle.session.specs.Calls.{loadSurvey}
-use Rattle.session.specs.Parts.{Answers, permittedAt, judgementIn}
+use Rattle.demands.specs.Parts.{Answers, permittedAt, judgementIn}
 use Rattle.session.specs.Readings.{judgeBetween, boundsList}
 use Rattle.session.specs.declared.Session.{Session}
 
 -- the session with a survey loaded: the vehicle stays
 abbrev pub with : Session → (survey : List ℕ) → Session

@@ -22,14 +22,15 @@ use Rattle.files.proofs.Tests.{in-range, range-in, refutes}
 use Rattle.files.proofs.Faults.{reading-case}
 use Rattle.vehicles.proofs.Vehicles as vehicles
 use Rattle.vehicles.proofs.Yards.{AllowedTo, length-files, files-joined, joined-files, joined-left}
 use Rattle.session.specs.Answers.{Answer, Outcome, Values, RefusedAt, refusedBy, valuesOf, judgementAnswer}
 use Rattle.session.specs.Calls.{Valid, members, loadVehicle, judge, thenJudge, unlessRefused}
 use Rattle.session.specs.Yard.{Entry, alone, vehicleAnswers, passing, firstRefusal, frontTests, yardAnswered, judgeYard, yardList}
-use Rattle.session.specs.YardCall.{fileAt, entryAt, GoodBefore, Counted, YardFault, no-survey, no-count, wrong-count, faulty-vehicle, bytes-left, short-list, Passing, YardAnswered, YardFigures, YardTaken}
+use Rattle.demands.specs.YardCall.{fileAt, entryAt, GoodBefore, Counted, YardFault, no-survey, no-count, wrong-count, faulty-vehicle, bytes-left, short-list, Passing, YardAnswered, YardFigures, YardTaken}
 use Rattle.session.specs.declared.Session.{Session}
 use Rattle.session.proofs.Loads.{never-both, vehicle-load, vehicle-refused}
-use Rattle.session.proofs.State.{all-answers, few-members}
+use Rattle.session.proofs.State.{few-members}
+use Rattle.demands.proofs.Answered.{all-answers}
 use Rattle.session.proofs.YardTests as tests
 
 -- a refused load is not judged
 then-refused : (o : Outcome) (n p : ℕ) → o .answer ≡ RefusedAt n p → thenJudge o .answer ≡ RefusedAt n p

@@ -1,0 +1,5 @@
+pub mod Answered
+pub mod History
+pub mod YardLaws
+pub mod ReadingsLaws
+pub mod Demands

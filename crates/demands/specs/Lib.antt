@@ -1,0 +1,5 @@
+pub mod History
+pub mod Parts
+pub mod YardCall
+pub mod ReadingsCall
+pub mod Demands
