@@ -80,10 +80,10 @@ module _ (wanted : Wanted) (file : List ℕ) where
         let size = length-vehicle (wantedVersion wanted) (vehicleOf file) in
         (rw (passed-all p, e), (rw (passed-all p, e) b, (rw (passed-all p) e, (omega (arith, e, size, cap), omega (arith, e, p .room-enough)))))
 
-    pub work-refused : (r : Refusal) → firstRefusal (convertTests wanted file room) ≡ Refused r → (bytes : List ℕ) →
-        (NotConverted r ≡ converted wanted file room) × ((take 0 bytes ≡ convertedBytes wanted file room) × ((0 ≡ length (convertedBytes wanted file room)) × ((0 ≤ LONGEST) × (0 ≤ room))))
+    pub work-refused : (r : Refusal) → firstRefusal (convertTests wanted file room) ≡ Refused r → {answer : Converted} (bytes : List ℕ) {n : ℕ} → answer ≡ NotConverted r → n ≡ 0 →
+        (answer ≡ converted wanted file room) × ((take n bytes ≡ convertedBytes wanted file room) × ((n ≡ length (convertedBytes wanted file room)) × ((n ≤ LONGEST) × (n ≤ room))))
     unfolding converted convertedBytes
-    work-refused r e bytes = (rw e, (rw e, (rw e, (omega arith, omega arith))))
+    work-refused r e bytes a z = (rw (a, e), (rw (z, e), (rw (z, e), (omega arith, omega arith))))
 
   -- what the output then holds
   pub out-is : (out bytes : List ℕ) (n : ℕ) → take n bytes ≡ convertedBytes wanted file (length out) → n ≡ length (convertedBytes wanted file (length out)) → paste out 0 bytes n ≡ convertedOut wanted file out

@@ -1,5 +1,5 @@
 // The converter: a vehicle file of one version becomes that of the other, with every number kept.
-pub mod bytes;
+mod bytes;
 
 use bytes::LONGEST;
 use bytes::put_bytes;
@@ -23,6 +23,7 @@ ghost use lib.ListN.{length, take};
 ghost use Rattle.member.specs.Fields.{MOST-AXLES};
 ghost use Rattle.vehicles.specs.VehicleFile.{readVehicleOf};
 ghost use Rattle.convert.specs.VehicleBytes.{LONGEST};
+ghost use Rattle.convert.specs.declared.Converted.the-variants.{Refused as NotConverted};
 ghost use Rattle.convert.specs.Convert.{only, wantedVersion, givenVersion, heavyAnswer, converted, convertedBytes, convertedOut};
 
 // The version that is wanted; the file has the other one.
@@ -95,6 +96,17 @@ fn heavy_answer(v: Vehicle, most: u64) -> Reading
     answer
 }
 
+fn nothing(refusal: Refusal) -> Work
+    ensures is { λ r. ⌜ r .answer ≡ NotConverted refusal ⌝ }
+    ensures length { λ r. ⌜ r .length ≡ 0 ⌝ }
+{
+    Work {
+        answer: Converted::Refused(refusal),
+        bytes: [0; LONGEST],
+        length: 0,
+    }
+}
+
 // The bytes that are to be written, and how many. They are worked out before any is written, so that a refusal finds none.
 fn work_out(file: &[u8], wanted: Wanted, room: usize) -> Work
     ensures is { λ r. ⌜ r .answer ≡ converted wanted (now (file .entry)) room ⌝ }
@@ -115,11 +127,7 @@ fn work_out(file: &[u8], wanted: Wanted, room: usize) -> Work
             bytes: vehicle_bytes(v, version),
             length,
         },
-        Reading::Refused(r) => Work {
-            answer: Converted::Refused(r),
-            bytes: [0; LONGEST],
-            length: 0,
-        },
+        Reading::Refused(r) => nothing(r),
     }
 }
 

@@ -3,7 +3,6 @@
 use Prim.Native.Nat.{_≤_}
 use mathlib.Core.Path.{_≡_, sym, ap, _∙_}
 use native.Mathlib.Omega.{arith}
-use lib.ListN.{replicate}
 use borrow.Author.Needs.{needs}
 use denote.Ref.{now}
 use Rattle.section.proofs.Products.{product-cap, product-fits}
@@ -12,7 +11,6 @@ use Rattle.files.specs.Reading.{firstRefusal}
 use Rattle.vehicles.specs.VehicleFile.{LONGEST-AXLE, vehicleOf}
 use Rattle.vehicles.specs.declared.VehicleRead.{VehicleRead}
 use Rattle.vehicles.proofs.Vehicles.{taken-vehicle}
-use Rattle.convert.specs.VehicleBytes.{LONGEST}
 use Rattle.convert.specs.Convert.{wantedVersion, convertTests}
 use Rattle.convert.proofs.Files.{length-vehicle}
 use Rattle.convert.proofs.Converting.{few-axles, tests-are, all-passed, work-written, work-refused}
@@ -78,6 +76,9 @@ vehicle-bytes-requires c κs = few (c .before .before .before .before .before .b
 enum-known-answer : tie.Need-enum-known-answer
 enum-known-answer c = search needs
 
+nothing-requires : tie.Need-nothing-requires
+nothing-requires c κs = search needs
+
 returns : tie.Need-returns
 returns c =
     let o = c .before .before .before in
@@ -94,9 +95,9 @@ returns c =
 
 returns-2 : tie.Need-returns-2
 returns-2 c =
-    let o = c .before .before .before in
+    let o = c .before .before .before .before in
     let a = o .before .before .before .before .before .before .before .before .before .before .before .before .args in
-    work-refused (a .wanted) (now (a .file)) (a .room) _ (sym (answered o) ∙ c .before .answer .given .1) (replicate LONGEST 0)
+    work-refused (a .wanted) (now (a .file)) (a .room) _ (sym (answered o) ∙ c .before .before .answer .given .1) (c .nothing .result .bytes) (c .nothing .ensures .0) (c .nothing .ensures .1)
 
 pub work-out-spec : {M : Type 1} → statement M
 work-out-spec =
@@ -116,5 +117,6 @@ work-out-spec =
     enum-told
     vehicle-bytes-requires
     enum-known-answer
+    nothing-requires
     returns
     returns-2)
