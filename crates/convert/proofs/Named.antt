@@ -70,7 +70,7 @@ module _ (wanted : Wanted) (file : List ℕ) where
   fit-light a fit = light-all _ (vehicleOf file) (go wanted a fit)
     where
       go : (w : Wanted) → Accepted w file → WeightsFit w file (axlesOf file) → (i : ℕ) → i < axlesOf file → weight (vehicleOf file .weights) i ≤ mostWanted w file
-      go Version1 a fit i l = rw (most-1, weight-is file i l) (fit refl i l)
+      go Version1 a fit i l = omega (arith, most-1, weight-is file i l, fit refl i l)
       go Version2 a fit i l = rw most-2 (a .vehicle .weights i l .1)
 
   pub light-fit : heavyAnswer (mostWanted wanted file) (vehicleOf file) ≡ Taken → WeightsFit wanted file (axlesOf file)

@@ -38,13 +38,13 @@ some-bytes version = of-weight-bytes (λ n. (2 ≤ n) × (n ≤ 4)) version (ome
 pub longest-axle : (version : ℕ) → axleSize version ≤ LONGEST-AXLE
 longest-axle version = omega (arith, some-bytes version)
 
--- a number of four bytes, its low byte first
-pub four-bytes-at : (bytes : List ℕ) (at : ℕ) {a b c d : ℕ} → a ≡ byteAt bytes at → b ≡ byteAt bytes (at + 1) → c ≡ byteAt bytes (at + 2) → d ≡ byteAt bytes (at + 3) →
-    a + 256 * b + 65536 * c + 16777216 * d ≡ numberAt 4 bytes at
-four-bytes-at bytes at e f g h =
+-- a number of four bytes and of two, the low byte first
+pub four-bytes-at : (bytes : List ℕ) (at : ℕ) →
+    byteAt bytes at + 256 * byteAt bytes (at + 1) + 65536 * byteAt bytes (at + 2) + 16777216 * byteAt bytes (at + 3) ≡ numberAt 4 bytes at
+four-bytes-at bytes at =
     let two : at + 1 + 1 ≡ at + 2 = omega arith in
     let three : at + 2 + 1 ≡ at + 3 = omega arith in
-    rw (two, three) (omega (arith, e, f, g, h))
+    rw (two, three) (omega arith)
 
 pub two-bytes-at : (bytes : List ℕ) (at : ℕ) → numberAt 2 bytes at ≡ wordAt bytes at
 two-bytes-at bytes at = omega arith

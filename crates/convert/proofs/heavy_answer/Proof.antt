@@ -45,7 +45,7 @@ loop-again : tie.Need-loop-again Inv-loop μ-loop
 loop-again c =
     let l = c .before .before in
     let a = l .before .args in
-    let light = ap (λ (b : Bool). 17 unless b) (le-leb (weight (a .t1 .weights) (l .loop .i)) (a .most) (c .if1 .left)) in
+    let light = ap (λ (b : Bool). 17 unless b) (le-leb (weight (a .t1 .weights) (l .loop .i)) (a .most) (omega (arith, c .if1 .left))) in
     (omega arith, l .loop .inv .1, clear-more (heavyFault (a .most) (a .t1)) 1 (l .loop .i) (l .loop .inv .2) light)
 
 returns : tie.Need-returns Inv-loop μ-loop
@@ -60,7 +60,7 @@ unfolding heavyAnswer
 returns-2 c =
     let l = c .before .before in
     let a = l .before .args in
-    let heavy = ap (λ (b : Bool). 17 unless b) (lt-leb (weight (a .t1 .weights) (l .loop .i)) (a .most) (c .if1 .taken)) in
+    let heavy = ap (λ (b : Bool). 17 unless b) (lt-leb (weight (a .t1 .weights) (l .loop .i)) (a .most) (omega (arith, c .if1 .taken))) in
     sym (fault-at (heavyFault (a .most) (a .t1)) 1 (l .loop .i) (a .t1 .axles) 17 (omega arith) (l .loop .inv .2) heavy (omega arith))
 
 pub heavy-answer-spec : {M : Type 1} → statement M

@@ -1,5 +1,5 @@
 -- `axle_limits` meets its contract: its tests are those of the range.
-use mathlib.Core.Path.{refl}
+use mathlib.Core.Path.{_≡_, refl}
 use borrow.Author.Needs.{needs}
 use borrow.Author.Tests.{eq-eqb, ne-eqb}
 use Rattle.vehicles.specs.VehicleFile.{axleRange}
@@ -16,7 +16,9 @@ returns c = rw (eq-eqb _ _ (c .before .if1 .taken), weights-from (c .before .bef
 
 returns-2 : tie.Need-returns-2
 unfolding axleRange
-returns-2 c = rw (ne-eqb _ _ (c .before .if1 .left), eq-eqb _ _ (c .if2 .taken)) (refl, refl)
+returns-2 c =
+    let first : c .before .before .args .axle ≡ 0 = c .if2 .taken in
+    rw (ne-eqb _ _ (c .before .if1 .left), eq-eqb _ _ first) (refl, refl)
 
 returns-3 : tie.Need-returns-3
 unfolding axleRange

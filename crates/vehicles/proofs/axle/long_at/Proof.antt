@@ -1,6 +1,10 @@
 -- `long_at` meets its contract: the four bytes make up the number.
+use Prim.Native.Nat.{_+_, _*_}
+use mathlib.Core.Path.{_∙_}
+use native.Mathlib.Omega.{arith}
 use borrow.Author.Needs.{needs}
 use denote.Ref.{now}
+use Rattle.files.specs.Words.{byteAt}
 use Rattle.vehicles.proofs.Axles.{four-bytes-at}
 use Rattle.vehicles.proofs.axle.long_at.Statement.{statement}
 use Rattle.vehicles.proofs.axle.long_at.Tie as tie
@@ -48,7 +52,10 @@ returns : tie.Need-returns
 returns c =
     let first = c .before .before .before in
     let a = first .before .before .args in
-    four-bytes-at (now (a .bytes)) (a .at) (first .byte-at .ensures .0) (c .before .before .byte-at2 .ensures .0) (c .before .byte-at3 .ensures .0) (c .byte-at4 .ensures .0)
+    let b = now (a .bytes) in
+    _∙_ {b = byteAt b (a .at) + 256 * byteAt b (a .at + 1) + 65536 * byteAt b (a .at + 2) + 16777216 * byteAt b (a .at + 3)}
+    (omega (arith, first .byte-at .ensures .0, c .before .before .byte-at2 .ensures .0, c .before .byte-at3 .ensures .0, c .byte-at4 .ensures .0))
+    (four-bytes-at b (a .at))
 
 pub long-at-spec : {M : Type 1} → statement M
 long-at-spec =
