@@ -1,5 +1,5 @@
--- What `vehicle_load` asks of its caller, so that 64 bits hold all it computes. Document 01 allows bases of up to 5000 cm, 1 to 16
--- axles of up to 60,000 kgf, 2000 cm apart at most; heavier axles are provided for.
+-- What `vehicle_load` asks of its caller, so that 64 bits hold all it computes. The documents allow bases of up to 5000 cm, 1 to 16 axles
+-- of up to 200,000 kgf, 2000 cm apart at most.
 use Prim.Native.Nat.{ℕ, _≤_, _<_}
 use mathlib.Core.List.{List}
 use Rattle.section.specs.declared.Cm.{Cm}
