@@ -1,62 +1,52 @@
 -- What is claimed of the converter, proved.
 -- Assumes nothing.
-use Prim.Native.Nat.{ℕ, suc, _+_, _≤_, _<_}
-use mathlib.Core.Path.{_≡_, refl, sym, ap, _∙_}
-use mathlib.Core.List.{List, [], _++_}
-use mathlib.Core.Logic.{_⊎_, inl, inr, ⊎-elim, _↔_}
+use Prim.Native.Nat.{ℕ, suc, _≤_, _<_}
+use mathlib.Core.Path.{_≡_, refl, sym, ap, subst, _∙_}
+use mathlib.Core.Bool.{true}
+use mathlib.Core.List.{List, [], _∷_, _++_}
+use mathlib.Core.Logic.{inl, inr, ⊎-elim}
 use native.Mathlib.Omega.{arith}
 use lib.ListN.{length, take, drop, length-append, length-drop}
 use lib.Seq.{take-at, drop-at}
-use Rattle.member.specs.Format.{Range, _‥_, In}
+use borrow.Author.Tests.{leb-true, le-leb}
+use Rattle.section.specs.Units.{weight}
+use Rattle.member.specs.Format.{In, weightRange}
+use Rattle.files.specs.Answer.{Answer, Values, WithMargin, RefusedAt}
 use Rattle.files.specs.Header.{versionOf}
 use Rattle.files.specs.Reading.{firstRefusal}
 use Rattle.files.specs.Words.{Bytes}
 use Rattle.files.specs.declared.Reading.{Reading}
 use Rattle.files.specs.declared.Reading.the-variants.{Taken, Refused}
-use Rattle.files.specs.declared.Refusal.{Refusal}
-use Rattle.vehicles.specs.VehicleFile.{VEHICLE-VERSIONS, axlesOf, weightAt, weightsIn, vehicleOf, vehicleAnswer, readVehicleOf, readVehicle}
+use Rattle.vehicles.specs.VehicleFile.{VEHICLE-VERSIONS, axlesOf, weightAt, weightsIn, vehicleOf, readVehicle}
 use Rattle.vehicles.specs.Allowed.{AllowedVehicleOf, AllowedVehicleFile}
-use Rattle.vehicles.specs.declared.VehicleRead.{VehicleRead}
-use Rattle.vehicles.proofs.Axles.{weights-from}
+use Rattle.vehicles.specs.Alike.{SameNumbers}
+use Rattle.vehicles.proofs.Alike.{same-vehicle, read-alike}
 use Rattle.vehicles.proofs.Vehicles.{weight-is, taken-allowed, allowed-taken}
-use Rattle.convert.specs.VehicleBytes.{vehicleBytes}
-use Rattle.convert.specs.Convert.{wantedVersion, givenVersion, only, given, unlessRefused, heavyAnswer, output, convertTests, converted, convertedBytes, convertedOut}
-use Rattle.convert.specs.Fault.{Accepted, MayBeConverted}
-use Rattle.convert.specs.Claims.{SameNumbers, back, Writes, written, ConvertAnswered, SameBytes, ConvertedFile, ConvertTaken}
+use Rattle.convert.specs.Convert.{wantedVersion, givenVersion, only, weightFits, answerBy, bytesBy, heavyAnswer, output, convertTests, converted, convertedBytes, convertedOut}
+use Rattle.convert.specs.Fault.{Accepted, ConvertFault}
+use Rattle.convert.specs.Claims.{back, Writes, written, ConvertAnswered, ConvertedFile, ConvertTaken}
 use Rattle.convert.specs.declared.Wanted.{Wanted}
 use Rattle.convert.specs.declared.Wanted.the-variants.{Version1, Version2}
-use Rattle.convert.specs.declared.Converted.{Converted}
-use Rattle.convert.specs.declared.Converted.the-variants.{Written}
-use Rattle.convert.specs.declared.Converted.the-variants.{Refused as NotConverted}
 use Rattle.convert.proofs.Numbers.{FitsIn}
 use Rattle.convert.proofs.Files.{length-vehicle}
-use Rattle.convert.proofs.Kept.{same-vehicle}
 use Rattle.convert.proofs.RoundTrip.{file-again, numbers-kept, output-allowed}
-use Rattle.convert.proofs.Converting.{mostWanted, Passed, all-passed, passed-all}
-use Rattle.convert.proofs.Named.{all-light, light-all, fault-refused, passed-good, good-passed, passed-or-fault}
+use Rattle.convert.proofs.Converting.{Passed, all-passed, passed-all}
+use Rattle.convert.proofs.Named.{fits-all, all-fit, fault-refused, passed-good, good-passed, passed-or-fault, already}
 
 -- an answer with bytes is no refusal
-abbrev bytesIn : Converted → ℕ
-bytesIn (Written n) = suc n
-bytesIn (NotConverted r) = 0
+abbrev bytesIn : Answer → ℕ
+bytesIn (Values (n ∷ ns)) = suc n
+bytesIn (Values []) = 0
+bytesIn (WithMargin values margin) = 0
+bytesIn (RefusedAt number place) = 0
 
-written-tests : (a : Reading) (m n : ℕ) → given a m ≡ Written n → (a ≡ Taken) × (n ≡ m)
+written-tests : (a : Reading) (m n : ℕ) → answerBy a m ≡ Values (n ∷ []) → (a ≡ Taken) × (n ≡ m)
 written-tests Taken m n e = (refl, omega (arith, ap bytesIn e))
 written-tests (Refused r) m n e = absurd (omega (arith, ap bytesIn e))
 
-refused-tests : (a : Reading) (m : ℕ) (r : Refusal) (bytes : List ℕ) → given a m ≡ NotConverted r → unlessRefused a bytes ≡ []
-refused-tests Taken m r bytes e = absurd (omega (arith, ap bytesIn e))
-refused-tests (Refused q) m r bytes e = refl
-
--- what a file that is allowed is read as
-read-taken : (bytes : List ℕ) → AllowedVehicleFile bytes → _≡_ {A = VehicleRead} (readVehicle bytes) (record { answer = Taken; vehicle = vehicleOf bytes })
-unfolding readVehicleOf
-read-taken bytes a = rw (allowed-taken VEHICLE-VERSIONS bytes a)
-
--- so files with the same numbers are read alike
-pub read-alike : (file file' : List ℕ) → AllowedVehicleFile file → AllowedVehicleFile file' → SameNumbers file file' → readVehicle file' ≡ readVehicle file
-read-alike file file' a a' same =
-    read-taken file' a' ∙ ap (λ v. record { answer = Taken; vehicle = v }) (same-vehicle file file' same) ∙ sym (read-taken file a)
+refused-tests : (a : Reading) (m n p : ℕ) (bytes : List ℕ) → answerBy a m ≡ RefusedAt n p → bytesBy a bytes ≡ []
+refused-tests Taken m n p bytes e = absurd (omega (arith, ap bytesIn e))
+refused-tests (Refused r) m n p bytes e = refl
 
 -- a file of one of the two versions is read among both
 either-version : (version : ℕ) (bytes : List ℕ) → In VEHICLE-VERSIONS version → AllowedVehicleOf (only version) bytes → AllowedVehicleFile bytes
@@ -84,12 +74,22 @@ wanted-back : (wanted : Wanted) → wantedVersion (back wanted) ≡ givenVersion
 wanted-back Version1 = refl
 wanted-back Version2 = refl
 
-module _ (wanted : Wanted) (file : List ℕ) (accepted : Accepted wanted file) (light : heavyAnswer (mostWanted wanted file) (vehicleOf file) ≡ Taken) where
+-- a weight that fits is in the range of the version wanted
+fitting : (w : Wanted) (n : ℕ) → In weightRange n → weightFits w n ≡ true → In (weightsIn (wantedVersion w)) n
+unfolding weightsIn
+fitting Version1 n h e = (h .0, leb-true _ _ e)
+fitting Version2 n h e = h
+
+-- and one in its range fits
+fitted : (w : Wanted) (n : ℕ) → In (weightsIn (wantedVersion w)) n → weightFits w n ≡ true
+unfolding weightsIn
+fitted Version1 n h = le-leb _ _ (h .1)
+fitted Version2 n h = refl
+
+module _ (wanted : Wanted) (file : List ℕ) (accepted : Accepted wanted file) (light : heavyAnswer wanted (vehicleOf file) ≡ Taken) where
   -- the weights are in the range of the wanted version
   fit : (i : ℕ) → i < axlesOf file → In (weightsIn (wantedVersion wanted)) (weightAt file i)
-  fit i l =
-      let low = rw (weights-from (versionOf file)) at (accepted .weights i l .0) in
-      (rw (weights-from (wantedVersion wanted)) low, rw (weight-is file i l) at (all-light (mostWanted wanted file) (vehicleOf file) light i l))
+  fit i l = rw (weight-is file i l) at (fitting wanted _ (accepted .vehicle .weights i l) (fits-all wanted file light i l))
 
   kept : SameNumbers file (output wanted file)
   kept = numbers-kept _ file accepted (wantedVersion wanted) (small-wanted wanted) fit
@@ -111,12 +111,16 @@ module _ (wanted : Wanted) (file : List ℕ) (accepted : Accepted wanted file) (
   back-output : Bytes file → output (back wanted) (output wanted file) ≡ file
   back-output small = rw (same, ← version-is) (file-again _ file small accepted)
 
+  again : (i : ℕ) → i < axlesOf file → weightFits (back wanted) (weight (vehicleOf (output wanted file) .weights) i) ≡ true
+  again i l =
+      rw (weight-is (output wanted file) i (omega (arith, kept .axles)), kept .weights i l)
+      (fitted (back wanted) (weightAt file i) (subst (λ (n : ℕ). In (weightsIn n) (weightAt file i)) version-is (accepted .weights i l)))
+
   back-passed : Bytes file → (room : ℕ) → length file ≤ room → Passed (back wanted) (output wanted file) room
   back-passed small room h =
-      let top : weightsIn (versionOf file) .high ≡ mostWanted (back wanted) file = ap (λ (n : ℕ). weightsIn n .high) version-is in
       record {
         taken = rw (given-back wanted) (allowed-taken _ (output wanted file) allowed);
-        light = rw same (light-all (mostWanted (back wanted) file) (vehicleOf file) (λ i l. omega (arith, top, weight-is file i l, accepted .weights i l .1)));
+        light = all-fit (back wanted) (output wanted file) (λ i l. again i (rw (kept .axles) at l));
         room-enough = rw (back-output small) h;
       }
 
@@ -124,7 +128,7 @@ module _ (wanted : Wanted) (file : List ℕ) (accepted : Accepted wanted file) (
     passed-back : firstRefusal (convertTests (back wanted) (output wanted file) (length out')) ≡ Taken
     passed-back = passed-all (back wanted) (output wanted file) (length out') (back-passed small (length out') h)
 
-    back-taken : converted (back wanted) (output wanted file) (length out') ≡ Written (length file)
+    back-taken : converted (back wanted) (output wanted file) (length out') ≡ Values (length file ∷ [])
     unfolding converted
     back-taken = rw (passed-back, back-output small)
 
@@ -133,16 +137,21 @@ module _ (wanted : Wanted) (file : List ℕ) (accepted : Accepted wanted file) (
     back-bytes = rw (passed-back, back-output small) (take-at file (drop (length file) out') (length file) refl)
 
 module _ (wanted : Wanted) (file out : List ℕ) where
+  refused-by : (n p : ℕ) → ConvertFault wanted file (length out) n p → converted wanted file (length out) ≡ RefusedAt n p
+  unfolding converted
+  refused-by n p f = rw (fault-refused wanted file (length out) n p f)
+
   pub convert-answered : ConvertAnswered wanted file out
   unfolding converted convertedBytes
   convert-answered =
       record {
         answered =
             ⊎-elim (λ p. inl (length (output wanted file), rw (passed-all wanted file (length out) p)))
-            (λ (r, f). inr (r, rw (fault-refused wanted file (length out) (r .number) (r .place) f), f))
+            (λ (n, p, f). inr (n, p, refused-by n p f, f))
             (passed-or-fault wanted file (length out));
-        named = λ r f. rw (fault-refused wanted file (length out) (r .number) (r .place) f);
-        out-kept = λ r e. rw (refused-tests (firstRefusal (convertTests wanted file (length out))) (length (output wanted file)) r (output wanted file) e);
+        named = refused-by;
+        wrong-version = λ a. refused-by 2 0 (already wanted file (length out) a);
+        out-kept = λ n p e. rw (refused-tests (firstRefusal (convertTests wanted file (length out))) (length (output wanted file)) n p (output wanted file) e);
       }
 
   -- where bytes are written

@@ -20,8 +20,8 @@ use Rattle.vehicles.specs.VehicleFile.{VEHICLE-HEADER, LONGEST-AXLE, axleSize, 
 use Rattle.vehicles.specs.declared.VehicleRead.{VehicleRead}
 use Rattle.vehicles.proofs.Axles.{longest-axle}
 use Rattle.vehicles.proofs.Vehicles.{taken-vehicle, taken-vehicle-allowed, refused-blank}
-use Rattle.convert.specs.VehicleBytes.{LONGEST, vehicleBytes}
-use Rattle.convert.specs.Convert.{wantedVersion, givenVersion, only, heavyAnswer, output, convertTests, converted, convertedBytes, convertedOut}
+use Rattle.convert.specs.VehicleBytes.{LONGEST-FILE, vehicleBytes}
+use Rattle.convert.specs.Convert.{convertAnswer, wantedVersion, givenVersion, only, heavyAnswer, output, convertTests, converted, convertedBytes, convertedOut}
 use Rattle.convert.specs.declared.Wanted.{Wanted}
 use Rattle.convert.specs.declared.Converted.{Converted}
 use Rattle.convert.specs.declared.Converted.the-variants.{Written}
@@ -33,9 +33,6 @@ module _ (wanted : Wanted) (file : List ℕ) where
   abbrev pub givenRead : VehicleRead
   givenRead = readVehicleOf (only (givenVersion wanted)) file
 
-  abbrev pub mostWanted : ℕ
-  mostWanted = weightsIn (wantedVersion wanted) .high
-
   -- a refused one has no axles
   pub few-axles : givenRead .vehicle .axles ≤ MOST-AXLES
   few-axles =
@@ -43,20 +40,20 @@ module _ (wanted : Wanted) (file : List ℕ) where
       (λ r e. rw (refused-blank _ file r e) (omega arith))
 
   pub tests-are : (room : ℕ) →
-      orElse (givenRead .answer) (orElse (heavyAnswer mostWanted (givenRead .vehicle)) (test 14 (leb (VEHICLE-HEADER + axleSize (wantedVersion wanted) * givenRead .vehicle .axles) room))) ≡
+      orElse (givenRead .answer) (orElse (heavyAnswer wanted (givenRead .vehicle)) (test 14 (leb (VEHICLE-HEADER + axleSize (wantedVersion wanted) * givenRead .vehicle .axles) room))) ≡
       firstRefusal (convertTests wanted file room)
   tests-are room = go (givenRead .answer) (taken-vehicle _ file)
     where
       go : (a : Reading) → (a ≡ Taken → givenRead .vehicle ≡ vehicleOf file) →
-          orElse a (orElse (heavyAnswer mostWanted (givenRead .vehicle)) (test 14 (leb (VEHICLE-HEADER + axleSize (wantedVersion wanted) * givenRead .vehicle .axles) room))) ≡
-          orElse a (orElse (heavyAnswer mostWanted (vehicleOf file)) (orElse (test 14 (leb (length (output wanted file)) room)) Taken))
+          orElse a (orElse (heavyAnswer wanted (givenRead .vehicle)) (test 14 (leb (VEHICLE-HEADER + axleSize (wantedVersion wanted) * givenRead .vehicle .axles) room))) ≡
+          orElse a (orElse (heavyAnswer wanted (vehicleOf file)) (orElse (test 14 (leb (length (output wanted file)) room)) Taken))
       go Taken same = rw (same refl, or-none, length-vehicle (wantedVersion wanted) (vehicleOf file))
       go (Refused r) same = refl
 
   -- what holds where no test fails
   pub record Passed (room : ℕ) : Type 0 where
     pub taken : givenRead .answer ≡ Taken
-    pub light : heavyAnswer mostWanted (vehicleOf file) ≡ Taken
+    pub light : heavyAnswer wanted (vehicleOf file) ≡ Taken
     pub room-enough : length (output wanted file) ≤ room
 
   module _ (room : ℕ) where
@@ -72,7 +69,7 @@ module _ (wanted : Wanted) (file : List ℕ) where
 
     -- what is worked out where none fails, and where one does
     pub work-written : Passed room → (bytes : List ℕ) {n : ℕ} → n ≡ length (output wanted file) → take (length (output wanted file)) bytes ≡ output wanted file →
-        (Written n ≡ converted wanted file room) × ((take n bytes ≡ convertedBytes wanted file room) × ((n ≡ length (convertedBytes wanted file room)) × ((n ≤ LONGEST) × (n ≤ room))))
+        (convertAnswer (Written n) ≡ converted wanted file room) × ((take n bytes ≡ convertedBytes wanted file room) × ((n ≡ length (convertedBytes wanted file room)) × ((n ≤ LONGEST-FILE) × (n ≤ room))))
     unfolding converted convertedBytes
     work-written p bytes e b =
         let axles : vehicleOf file .axles ≤ MOST-AXLES = rw (← ap (λ (v : Vehicle). v .axles) (taken-vehicle _ file (p .taken))) few-axles in
@@ -81,7 +78,7 @@ module _ (wanted : Wanted) (file : List ℕ) where
         (rw (passed-all p, e), (rw (passed-all p, e) b, (rw (passed-all p) e, (omega (arith, e, size, cap), omega (arith, e, p .room-enough)))))
 
     pub work-refused : (r : Refusal) → firstRefusal (convertTests wanted file room) ≡ Refused r → {answer : Converted} (bytes : List ℕ) {n : ℕ} → answer ≡ NotConverted r → n ≡ 0 →
-        (answer ≡ converted wanted file room) × ((take n bytes ≡ convertedBytes wanted file room) × ((n ≡ length (convertedBytes wanted file room)) × ((n ≤ LONGEST) × (n ≤ room))))
+        (convertAnswer answer ≡ converted wanted file room) × ((take n bytes ≡ convertedBytes wanted file room) × ((n ≡ length (convertedBytes wanted file room)) × ((n ≤ LONGEST-FILE) × (n ≤ room))))
     unfolding converted convertedBytes
     work-refused r e bytes a z = (rw (a, e), (rw (z, e), (rw (z, e), (omega arith, omega arith))))
 

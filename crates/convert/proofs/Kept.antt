@@ -1,4 +1,4 @@
--- The numbers of a vehicle's file are the vehicle's, and a file with the same numbers is read as the same vehicle.
+-- The numbers of a vehicle's file are the vehicle's.
 -- Assumes nothing.
 use Prim.Native.Nat.{ℕ, zero, suc, _+_, _*_, _≤_, _<_}
 use mathlib.Core.Path.{_≡_, refl, sym, ap, _∙_}
@@ -9,12 +9,11 @@ use lib.ListN.{length, length-append}
 use Rattle.section.specs.Units.{weight, distance, kgf, centimetres}
 use Rattle.member.specs.declared.record.Vehicle.{Vehicle}
 use Rattle.files.specs.Header.{versionOf}
-use Rattle.files.specs.Words.{wordAt}
+use Rattle.files.specs.Words.{wordAt, numberAt}
 use Rattle.files.proofs.Each.{each-same}
-use Rattle.vehicles.specs.VehicleFile.{VEHICLE-HEADER, numberAt, weightBytes, axleSize, classOf, trackOf, axlesOf, weightAt, distanceAt, vehicleOf}
+use Rattle.vehicles.specs.VehicleFile.{VEHICLE-HEADER, weightBytes, axleSize, classOf, trackOf, axlesOf, weightAt, distanceAt, vehicleOf}
 use Rattle.vehicles.proofs.Axles.{two-bytes-at}
 use Rattle.convert.specs.VehicleBytes.{bytesOf, headBytes, axleBytes, axlesBytes, vehicleBytes}
-use Rattle.convert.specs.Claims.{SameNumbers}
 use Rattle.convert.proofs.Numbers.{FitsIn, length-bytes, number-written}
 use Rattle.convert.proofs.Files.{length-with}
 
@@ -85,10 +84,3 @@ module _ (version : ℕ) (v : Vehicle) where
   pub axles-written : FitsIn 1 (v .axles) → axlesOf (vehicleBytes version v) ≡ v .axles
   unfolding vehicleBytes
   axles-written small = omega arith
-
--- the same numbers are the same vehicle
-pub same-vehicle : (file file' : List ℕ) → SameNumbers file file' → vehicleOf file' ≡ vehicleOf file
-same-vehicle file file' s =
-    let weights = each-same (axlesOf file) (λ i l. ap kgf (s .weights i l)) in
-    let distances = each-same (axlesOf file) (λ i l. ap centimetres (s .distances i l)) in
-    rw (s .class, s .track, s .axles, weights, distances)

@@ -1,80 +1,82 @@
 -- A refusal of the converter names its fault, and a fault its refusal: the tests in their order come to the plain words.
 -- Assumes nothing.
-use Prim.Native.Nat.{ℕ, _+_, _-_, _*_, _≤_, _<_}
-use mathlib.Core.Path.{_≡_, refl, sym, ap, _∙_}
-use mathlib.Core.Bool.{Bool}
+use Prim.Native.Nat.{ℕ, _+_, _≤_, _<_}
+use mathlib.Core.Path.{_≡_, refl, sym}
+use mathlib.Core.Bool.{Bool, true, false, false≢true}
 use mathlib.Core.List.{List}
-use mathlib.Core.Logic.{_⊎_, inl, inr, ⊎-elim}
+use mathlib.Core.Logic.{_⊎_, inl, inr}
 use native.Mathlib.Decide.{decLe}
 use native.Mathlib.Omega.{arith}
 use lib.ListN.{length}
-use borrow.Author.Tests.{leb-true, le-leb, lt-leb}
+use borrow.Author.Tests.{leb-true, leb-false, le-leb, lt-leb}
 use Rattle.section.specs.Units.{weight}
-use Rattle.member.specs.declared.record.Vehicle.{Vehicle}
-use Rattle.files.specs.Reading.{_unless_, firstRefusal}
-use Rattle.files.specs.Words.{each}
+use Rattle.member.specs.Format.{In}
+use Rattle.files.specs.Header.{versionOf}
+use Rattle.files.specs.Reading.{firstRefusal}
+use Rattle.files.specs.Refused.{wrong-mark}
 use Rattle.files.specs.declared.Reading.the-variants.{Taken, Refused}
 use Rattle.files.specs.declared.Refusal.{Refusal}
-use Rattle.files.proofs.Each.{length-each, getD-each}
-use Rattle.files.proofs.Faults.{refusal, reading-case, taken-none, none-taken, fault-at, refused-at}
-use Rattle.files.proofs.Tests.{passed}
-use Rattle.vehicles.specs.VehicleFile.{axlesOf, weightAt, weightsIn, vehicleOf}
+use Rattle.files.proofs.Faults.{refusal, reading-case, all-hold, hold-all, first-failing, failing-named}
+use Rattle.vehicles.specs.VehicleFile.{axlesOf, vehicleOf}
+use Rattle.vehicles.specs.Allowed.{AllowedVehicleOf}
+use Rattle.vehicles.specs.Refused.{wrong-header}
 use Rattle.vehicles.proofs.Vehicles.{weight-is, taken-allowed, allowed-taken, refused-named, named-refused}
-use Rattle.convert.specs.Convert.{wantedVersion, givenVersion, only, heavyFault, heavyAnswer, output, convertTests}
+use Rattle.convert.specs.Convert.{wantedVersion, givenVersion, only, weightFits, heavyAnswer, output, convertTests}
 use Rattle.convert.specs.Fault.{Accepted, WeightsFit, outputLength, ConvertFault, file-refused, too-heavy, short-output, MayBeConverted}
 use Rattle.convert.specs.declared.Wanted.{Wanted}
 use Rattle.convert.specs.declared.Wanted.the-variants.{Version1, Version2}
 use Rattle.convert.proofs.Files.{length-vehicle}
-use Rattle.convert.proofs.Converting.{mostWanted, givenRead, Passed, passed-all}
-
--- the most weight of each version
-most-1 : weightsIn 1 .high ≡ 60000
-unfolding weightsIn
-most-1 = refl
-
-most-2 : weightsIn 2 .high ≡ 200000
-unfolding weightsIn
-most-2 = refl
-
--- the test of the weights, of any most weight
-module _ (most : ℕ) (v : Vehicle) where
-  pub all-light : heavyAnswer most v ≡ Taken → (i : ℕ) → i < v .axles → weight (v .weights) i ≤ most
-  unfolding heavyAnswer
-  all-light e i l =
-      leb-true _ _ (passed 17 _ (omega arith) (sym (getD-each (heavyFault most v) (v .axles) i 0 l) ∙ taken-none 1 (each (heavyFault most v) (v .axles)) e i))
-
-  pub light-all : ((i : ℕ) → i < v .axles → weight (v .weights) i ≤ most) → heavyAnswer most v ≡ Taken
-  unfolding heavyAnswer
-  light-all h = none-taken 1 (heavyFault most v) (v .axles) (λ i l. ap (λ (b : Bool). 17 unless b) (le-leb _ _ (h i l)))
-
-  first-heavy : (i : ℕ) → i < v .axles → ((k : ℕ) → k < i → weight (v .weights) k ≤ most) → most < weight (v .weights) i → heavyAnswer most v ≡ refusal 17 (i + 1)
-  unfolding heavyAnswer
-  first-heavy i l before h =
-      fault-at (heavyFault most v) 1 i (v .axles) 17 l (none-taken 1 (heavyFault most v) i (λ k b. ap (λ (b : Bool). 17 unless b) (le-leb _ _ (before k b)))) (ap (λ (b : Bool). 17 unless b) (lt-leb _ _ h)) (omega arith)
-
-  -- a refusal names the first that is too heavy
-  heavy-named : (r : Refusal) → heavyAnswer most v ≡ Refused r →
-      (i : ℕ) × (i < v .axles) × ((k : ℕ) → k < i → weight (v .weights) k ≤ most) × (most < weight (v .weights) i)
-  unfolding heavyAnswer
-  heavy-named r e =
-      let at = refused-at 1 (each (heavyFault most v) (v .axles)) r e in
-      let i : ℕ = r .place - 1 in
-      let inside : i < v .axles = omega (arith, at .below, at .from, length-each (heavyFault most v) (v .axles)) in
-      let light : (k : ℕ) → k < i → weight (v .weights) k ≤ most = λ k l. leb-true _ _ (passed 17 _ (omega arith) (sym (getD-each (heavyFault most v) (v .axles) k 0 (omega arith)) ∙ at .first k l)) in
-      let heavy : ¬ (weight (v .weights) i ≤ most) = λ h. at .fault (sym (sym (ap (λ (b : Bool). 17 unless b) (le-leb _ _ h)) ∙ sym (getD-each (heavyFault most v) (v .axles) i 0 inside) ∙ at .number)) in
-      (i, inside, light, omega arith)
+use Rattle.convert.proofs.Converting.{givenRead, Passed}
 
 module _ (wanted : Wanted) (file : List ℕ) where
-  -- the weights fit exactly where the test of them finds nothing; from 1 to 2 it never does
-  pub fit-light : Accepted wanted file → WeightsFit wanted file (axlesOf file) → heavyAnswer (mostWanted wanted file) (vehicleOf file) ≡ Taken
-  fit-light a fit = light-all _ (vehicleOf file) (go wanted a fit)
-    where
-      go : (w : Wanted) → Accepted w file → WeightsFit w file (axlesOf file) → (i : ℕ) → i < axlesOf file → weight (vehicleOf file .weights) i ≤ mostWanted w file
-      go Version1 a fit i l = omega (arith, most-1, weight-is file i l, fit refl i l)
-      go Version2 a fit i l = rw most-2 (a .vehicle .weights i l .1)
+  -- the weight of the axle of index i fits, by the test
+  abbrev fits : (i : ℕ) → Bool
+  fits i = weightFits wanted (weight (vehicleOf file .weights) i)
 
-  pub light-fit : heavyAnswer (mostWanted wanted file) (vehicleOf file) ≡ Taken → WeightsFit wanted file (axlesOf file)
-  light-fit e back i l = rw (back, most-1, weight-is file i l) at (all-light (mostWanted wanted file) (vehicleOf file) e i l)
+  pub fits-all : heavyAnswer wanted (vehicleOf file) ≡ Taken → (i : ℕ) → i < axlesOf file → fits i ≡ true
+  unfolding heavyAnswer
+  fits-all e = all-hold 17 (omega arith) fits (axlesOf file) e
+
+  pub all-fit : ((i : ℕ) → i < axlesOf file → fits i ≡ true) → heavyAnswer wanted (vehicleOf file) ≡ Taken
+  unfolding heavyAnswer
+  all-fit h = hold-all 17 (omega arith) fits (axlesOf file) h
+
+  first-heavy : (i : ℕ) → i < axlesOf file → ((k : ℕ) → k < i → fits k ≡ true) → fits i ≡ false → heavyAnswer wanted (vehicleOf file) ≡ refusal 17 (i + 1)
+  unfolding heavyAnswer
+  first-heavy i l before f = first-failing 17 (omega arith) fits i (axlesOf file) l before f
+
+  heavy-named : (r : Refusal) → heavyAnswer wanted (vehicleOf file) ≡ Refused r → (i : ℕ) × (i < axlesOf file) × ((k : ℕ) → k < i → fits k ≡ true) × (fits i ≡ false)
+  unfolding heavyAnswer
+  heavy-named r e = failing-named 17 (omega arith) fits (axlesOf file) r e
+
+-- the two ways are two
+differ : Version2 ≡ Version1 → ⊥
+differ e = let z : _≡_ {A = ℕ} 0 1 = cc in omega arith
+
+-- the test of a weight, in plain words: going back it is at most 60,000
+light-fits : (w : Wanted) (n : ℕ) → (w ≡ Version1 → n ≤ 60000) → weightFits w n ≡ true
+light-fits Version1 n h = le-leb _ _ (h refl)
+light-fits Version2 n h = refl
+
+fits-light : (w : Wanted) (n : ℕ) → weightFits w n ≡ true → w ≡ Version1 → n ≤ 60000
+fits-light Version1 n e back = leb-true _ _ e
+fits-light Version2 n e back = absurd (differ back)
+
+heavy-fails : (w : Wanted) (n : ℕ) → w ≡ Version1 → 60000 < n → weightFits w n ≡ false
+heavy-fails Version1 n back h = lt-leb _ _ h
+heavy-fails Version2 n back h = absurd (differ back)
+
+fails-heavy : (w : Wanted) (n : ℕ) → weightFits w n ≡ false → (w ≡ Version1) × (60000 < n)
+fails-heavy Version1 n e = (refl, leb-false n 60000 e)
+fails-heavy Version2 n e = absurd (false≢true (sym e))
+
+module _ (wanted : Wanted) (file : List ℕ) where
+  -- the weights fit exactly where the test of them finds nothing
+  pub fit-light : (n : ℕ) → n ≤ axlesOf file → WeightsFit wanted file n → (i : ℕ) → i < n → weightFits wanted (weight (vehicleOf file .weights) i) ≡ true
+  fit-light n h fit i l = light-fits wanted _ (λ back. rw (weight-is file i (omega arith)) (fit back i l))
+
+  light-fit : (n : ℕ) → n ≤ axlesOf file → ((i : ℕ) → i < n → weightFits wanted (weight (vehicleOf file .weights) i) ≡ true) → WeightsFit wanted file n
+  light-fit n h e back i l = rw (weight-is file i (omega arith)) at (fits-light wanted _ (e i l) back)
 
   size-is : length (output wanted file) ≡ outputLength wanted file
   size-is = length-vehicle (wantedVersion wanted) (vehicleOf file)
@@ -84,51 +86,61 @@ module _ (wanted : Wanted) (file : List ℕ) where
     pub fault-refused : (n p : ℕ) → ConvertFault wanted file room n p → firstRefusal (convertTests wanted file room) ≡ refusal n p
     fault-refused n p (file-refused r f) = rw (named-refused _ file r f)
     fault-refused n p (too-heavy a back i l before h) =
-        let light : (k : ℕ) → k < i → weight (vehicleOf file .weights) k ≤ mostWanted wanted file = λ k b. rw (back, most-1, weight-is file k (omega arith)) (before back k b) in
-        let heavy : mostWanted wanted file < weight (vehicleOf file .weights) i = rw (back, most-1, weight-is file i l) h in
-        rw (allowed-taken _ file a, first-heavy (mostWanted wanted file) (vehicleOf file) i l light heavy)
+        let heavy = heavy-fails wanted (weight (vehicleOf file .weights) i) back (rw (weight-is file i l) h) in
+        rw (allowed-taken _ file a, first-heavy wanted file i l (fit-light i (omega arith) before) heavy)
     fault-refused n p (short-output a fit s) =
         let short : room < length (output wanted file) = omega (arith, s, size-is) in
-        rw (allowed-taken _ file a, fit-light a fit, lt-leb _ _ short)
+        rw (allowed-taken _ file a, all-fit wanted file (fit-light (axlesOf file) (omega arith) fit), lt-leb _ _ short)
 
     -- what passes every test, in plain words
     pub passed-good : Passed wanted file room → MayBeConverted wanted file room
-    passed-good p = record { accepted = taken-allowed _ file (p .taken); weights = light-fit (p .light); room-enough = omega (arith, p .room-enough, size-is) }
+    passed-good p = record { accepted = taken-allowed _ file (p .taken); weights = light-fit (axlesOf file) (omega arith) (fits-all wanted file (p .light)); room-enough = omega (arith, p .room-enough, size-is) }
 
     pub good-passed : MayBeConverted wanted file room → Passed wanted file room
     good-passed g =
         record {
           taken = allowed-taken _ file (g .accepted);
-          light = fit-light (g .accepted) (g .weights);
+          light = all-fit wanted file (fit-light (axlesOf file) (omega arith) (g .weights));
           room-enough = omega (arith, g .room-enough, size-is);
         }
 
     abbrev Outcome : Type 0
-    Outcome = Passed wanted file room ⊎ ((r : Refusal) × ConvertFault wanted file room (r .number) (r .place))
-
-    -- an axle above the most of the wanted version: going back it is too heavy, the other way there is none
-    above : (i : ℕ) → Accepted wanted file → i < axlesOf file → ((k : ℕ) → k < i → weight (vehicleOf file .weights) k ≤ mostWanted wanted file) → mostWanted wanted file < weight (vehicleOf file .weights) i →
-        ConvertFault wanted file room 17 (i + 1)
-    above i a l light heavy = go wanted a light heavy
-      where
-        go : (w : Wanted) → Accepted w file → ((k : ℕ) → k < i → weight (vehicleOf file .weights) k ≤ mostWanted w file) → mostWanted w file < weight (vehicleOf file .weights) i → ConvertFault w file room 17 (i + 1)
-        go Version1 a light heavy =
-            too-heavy a refl i l (λ back k b. rw (most-1, weight-is file k (omega arith)) at (light k b)) (rw (most-1, weight-is file i l) at heavy)
-        go Version2 a light heavy = absurd (omega (arith, heavy, most-2, a .vehicle .weights i l .1))
+    Outcome = Passed wanted file room ⊎ ((n p : ℕ) × ConvertFault wanted file room n p)
 
     -- every call passes all tests or has a fault
     pub passed-or-fault : Outcome
     passed-or-fault =
-        reading-case (givenRead wanted file .answer) (λ x. Outcome) (λ e. accepted (taken-allowed _ file e)) (λ r e. inr (r, file-refused r (refused-named _ file r e)))
+        reading-case (givenRead wanted file .answer) (λ x. Outcome) (λ e. accepted (taken-allowed _ file e)) (λ r e. inr (r .number, r .place, file-refused r (refused-named _ file r e)))
       where
         roomy : Accepted wanted file → WeightsFit wanted file (axlesOf file) → Outcome
         roomy a fit =
             elim (decLe (outputLength wanted file) room) [
               | yes l ↦ inl (good-passed (record { accepted = a; weights = fit; room-enough = l }))
-              | no s ↦ inr (record { number = 14; place = 0 }, short-output a fit (omega arith))
+              | no s ↦ inr (14, 0, short-output a fit (omega arith))
             ]
+
+        heavy : Accepted wanted file → (r : Refusal) → heavyAnswer wanted (vehicleOf file) ≡ Refused r → Outcome
+        heavy a r e =
+            let (i, l, before, fails) = heavy-named wanted file r e in
+            let (back, above) = fails-heavy wanted _ fails in
+            inr (17, i + 1, too-heavy a back i l (light-fit i (omega arith) before) (rw (weight-is file i l) at above))
 
         accepted : Accepted wanted file → Outcome
         accepted a =
-            reading-case (heavyAnswer (mostWanted wanted file) (vehicleOf file)) (λ x. Outcome) (λ e. roomy a (light-fit e))
-            (λ r e. let (i, l, light, heavy) = heavy-named (mostWanted wanted file) (vehicleOf file) r e in inr (record { number = 17; place = i + 1 }, above i a l light heavy))
+            reading-case (heavyAnswer wanted (vehicleOf file)) (λ x. Outcome) (λ e. roomy a (light-fit (axlesOf file) (omega arith) (fits-all wanted file e))) (heavy a)
+
+    -- a file that has the wanted version already
+    pub already : AllowedVehicleOf (only (wantedVersion wanted)) file → ConvertFault wanted file room 2 0
+    already a =
+        file-refused (record { number = 2; place = 0 })
+        (record {
+          number = inl (omega arith, omega arith);
+          header = λ l. refl;
+          place = omega arith;
+          front-fault = λ e. wrong-header (wrong-mark (omega (arith, a .size)) (λ m. other wanted (a .version) (m .1)));
+          axle-fault = λ l. absurd (omega arith);
+        })
+      where
+        other : (w : Wanted) → In (only (wantedVersion w)) (versionOf file) → In (only (givenVersion w)) (versionOf file) → ⊥
+        other Version1 a b = omega (arith, a .1, b .0)
+        other Version2 a b = omega (arith, a .0, b .1)

@@ -14,17 +14,18 @@ use Rattle.section.specs.Choose.{choose}
 use Rattle.section.specs.Units.{weight, distance}
 use Rattle.member.specs.Format.{Range, _‥_, In, weightRange}
 use Rattle.files.specs.Header.{versionOf}
-use Rattle.files.specs.Words.{Bytes, byteAt, wordAt}
-use Rattle.vehicles.specs.VehicleFile.{VEHICLE-HEADER, numberAt, weightBytes, axleSize, axleAt, classOf, trackOf, axlesOf, weightAt, distanceAt, weightsIn, vehicleOf}
+use Rattle.files.specs.Words.{Bytes, byteAt, wordAt, numberAt}
+use Rattle.vehicles.specs.VehicleFile.{VEHICLE-HEADER, weightBytes, axleSize, axleAt, classOf, trackOf, axlesOf, weightAt, distanceAt, weightsIn, vehicleOf}
 use Rattle.vehicles.specs.Allowed.{AllowedVehicleOf}
-use Rattle.vehicles.proofs.Axles.{two-bytes-at, axle-within}
+use Rattle.vehicles.proofs.Axles.{of-version, two-bytes-at, axle-within}
 use Rattle.vehicles.proofs.Vehicles.{weight-is, distance-is}
 use Rattle.convert.specs.VehicleBytes.{bytesOf, headBytes, axlesBytes, vehicleBytes}
 use Rattle.convert.specs.Convert.{only}
-use Rattle.convert.specs.Claims.{SameNumbers}
+use Rattle.vehicles.specs.Alike.{SameNumbers}
 use Rattle.convert.proofs.Numbers.{FitsIn, window, windows, beside, number-read}
 use Rattle.convert.proofs.Files.{length-vehicle}
-use Rattle.convert.proofs.Kept.{version-written, class-written, track-written, axles-written, weight-written, distance-written, same-vehicle}
+use Rattle.vehicles.proofs.Alike.{same-vehicle}
+use Rattle.convert.proofs.Kept.{version-written, class-written, track-written, axles-written, weight-written, distance-written}
 
 -- numbers of one and of two bytes
 one-read : (bytes : List ℕ) → Bytes bytes → (at : ℕ) → at + 1 ≤ length bytes → bytesOf 1 (byteAt bytes at) ≡ window bytes at 1
@@ -70,12 +71,7 @@ module _ (versions : Range) (file : List ℕ) (small : Bytes file) (a : AllowedV
 
 -- what a version's range allows its bytes hold
 weights-fit : (version w : ℕ) → In (weightsIn version) w → FitsIn (weightBytes version) w
-unfolding weightsIn weightBytes
-weights-fit version w h = go (eqb version 2) h
-  where
-    go : (b : Bool) → In (choose b weightRange (1 ‥ 60000)) w → FitsIn (choose b 4 2) w
-    go true h = omega (arith, h .1)
-    go false h = omega (arith, h .1)
+weights-fit version w = of-version (λ n r. In r w → FitsIn n w) version (λ h. omega (arith, h .1)) (λ h. omega (arith, h .1))
 
 -- another version
 module _ (versions : Range) (file : List ℕ) (a : AllowedVehicleOf versions file) (version : ℕ) (small : FitsIn 2 version) (fit : (i : ℕ) → i < axlesOf file → In (weightsIn version) (weightAt file i)) where

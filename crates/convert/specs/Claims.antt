@@ -1,28 +1,19 @@
 -- What is claimed of the converter, each part under the sentence of document 02, request 9/13, that it states. demands/specs/Demands.antt has
 -- it of all bytes, both ways and every output.
-use Prim.Native.Nat.{ℕ, _≤_, _<_}
+use Prim.Native.Nat.{ℕ, _≤_}
 use mathlib.Core.Path.{_≡_}
-use mathlib.Core.List.{List}
+use mathlib.Core.List.{List, [], _∷_}
 use mathlib.Core.Logic.{_⊎_, _↔_}
 use lib.ListN.{length, take, drop}
 use Rattle.files.specs.Words.{Bytes}
-use Rattle.files.specs.declared.Refusal.{Refusal}
-use Rattle.vehicles.specs.VehicleFile.{classOf, trackOf, axlesOf, weightAt, distanceAt, readVehicle}
+use Rattle.files.specs.Answer.{Values, RefusedAt}
+use Rattle.vehicles.specs.VehicleFile.{readVehicle}
 use Rattle.vehicles.specs.Allowed.{AllowedVehicleOf}
+use Rattle.vehicles.specs.Alike.{SameNumbers}
 use Rattle.convert.specs.Convert.{wantedVersion, only, converted, convertedOut}
 use Rattle.convert.specs.Fault.{outputLength, ConvertFault, MayBeConverted}
 use Rattle.convert.specs.declared.Wanted.{Wanted}
 use Rattle.convert.specs.declared.Wanted.the-variants.{Version1, Version2}
-use Rattle.convert.specs.declared.Converted.the-variants.{Written}
-use Rattle.convert.specs.declared.Converted.the-variants.{Refused as NotConverted}
-
--- "every number kept"
-pub record SameNumbers (file file' : List ℕ) : Type 0 where
-  pub class : classOf file' ≡ classOf file
-  pub track : trackOf file' ≡ trackOf file
-  pub axles : axlesOf file' ≡ axlesOf file
-  pub weights : (i : ℕ) → i < axlesOf file → weightAt file' i ≡ weightAt file i
-  pub distances : (i : ℕ) → i < axlesOf file → distanceAt file' i ≡ distanceAt file i
 
 -- the way back
 abbrev pub back : Wanted → Wanted
@@ -30,9 +21,9 @@ back Version1 = Version2
 back Version2 = Version1
 
 module _ (wanted : Wanted) (file out : List ℕ) where
-  -- so many bytes are written, and these are they
+  -- the call's answer: so many bytes are written, and these are they
   abbrev pub Writes : (n : ℕ) → Type 0
-  Writes n = converted wanted file (length out) ≡ Written n
+  Writes n = converted wanted file (length out) ≡ Values (n ∷ [])
 
   abbrev pub written : (n : ℕ) → List ℕ
   written n = take n (convertedOut wanted file out)
@@ -40,15 +31,17 @@ module _ (wanted : Wanted) (file out : List ℕ) where
   -- Of demand 1: the call answers, or is refused by a number of the list, and nothing is touched then.
   pub record ConvertAnswered : Type 0 where
     pub answered : ((n : ℕ) × Writes n) ⊎
-        ((r : Refusal) × (converted wanted file (length out) ≡ NotConverted r) × ConvertFault wanted file (length out) (r .number) (r .place))
+        ((n p : ℕ) × (converted wanted file (length out) ≡ RefusedAt n p) × ConvertFault wanted file (length out) n p)
     -- a refusal names one number and one place
-    pub named : (r : Refusal) → ConvertFault wanted file (length out) (r .number) (r .place) → converted wanted file (length out) ≡ NotConverted r
+    pub named : (n p : ℕ) → ConvertFault wanted file (length out) n p → converted wanted file (length out) ≡ RefusedAt n p
+    -- "The wrong version for the way asked gives 2": so of a file that has the wanted version already
+    pub wrong-version : AllowedVehicleOf (only (wantedVersion wanted)) file → converted wanted file (length out) ≡ RefusedAt 2 0
     -- "A refusal writes nothing."
-    pub out-kept : (r : Refusal) → converted wanted file (length out) ≡ NotConverted r → convertedOut wanted file out ≡ out
+    pub out-kept : (n p : ℕ) → converted wanted file (length out) ≡ RefusedAt n p → convertedOut wanted file out ≡ out
 
   -- "there and back gives the same bytes": the way back, of what was written, into an output that is long enough
   pub record SameBytes (n : ℕ) (out' : List ℕ) : Type 0 where
-    pub taken : converted (back wanted) (written n) (length out') ≡ Written (length file)
+    pub taken : converted (back wanted) (written n) (length out') ≡ Values (length file ∷ [])
     pub bytes : take (length file) (convertedOut (back wanted) (written n) out') ≡ file
 
   -- Of demand 2, where bytes are written.
@@ -62,6 +55,7 @@ module _ (wanted : Wanted) (file out : List ℕ) where
     pub kept : SameNumbers file (written n)
     -- so the same vehicle is read: "A vehicle rates alike in both versions."
     pub alike : readVehicle (written n) ≡ readVehicle file
+    -- the list is one of bytes, each below 256
     pub there-and-back : Bytes file → (out' : List ℕ) → length file ≤ length out' → SameBytes n out'
 
   -- bytes are written exactly when no test fails, in plain words

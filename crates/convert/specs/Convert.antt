@@ -1,22 +1,29 @@
 -- The converter. Document 02, request 9/13: "A converter goes from 1 to 2 with every number kept, and back where each weight fits".
 use Prim.Native.Nat.{ℕ}
+use mathlib.Core.Bool.{Bool, true}
 use mathlib.Core.List.{List, [], _∷_, _++_}
 use lib.Dec.{leb}
 use lib.ListN.{length, drop}
 use Rattle.section.specs.Units.{weight}
 use Rattle.member.specs.Format.{Range, _‥_}
 use Rattle.member.specs.declared.record.Vehicle.{Vehicle}
+use Rattle.files.specs.Answer.{Answer, Values, refusedBy}
 use Rattle.files.specs.Words.{each}
 use Rattle.files.specs.Reading.{_unless_, firstFault, test, firstRefusal}
 use Rattle.files.specs.declared.Reading.{Reading}
 use Rattle.files.specs.declared.Reading.the-variants.{Taken, Refused}
-use Rattle.vehicles.specs.VehicleFile.{weightsIn, vehicleOf, readVehicleOf}
+use Rattle.vehicles.specs.VehicleFile.{vehicleOf, readVehicleOf}
 use Rattle.convert.specs.VehicleBytes.{vehicleBytes}
 use Rattle.convert.specs.declared.Wanted.{Wanted}
 use Rattle.convert.specs.declared.Wanted.the-variants.{Version1, Version2}
 use Rattle.convert.specs.declared.Converted.{Converted}
 use Rattle.convert.specs.declared.Converted.the-variants.{Written}
 use Rattle.convert.specs.declared.Converted.the-variants.{Refused as NotConverted}
+
+-- the answer's numbers: "The number of bytes written comes back", or a refusal's number and place
+abbrev pub convertAnswer : Converted → Answer
+convertAnswer (Written bytes) = Values (bytes ∷ [])
+convertAnswer (NotConverted r) = refusedBy r
 
 -- "from 1 to 2 .., and back": the version that is wanted, and the one that the file has
 abbrev pub wantedVersion : Wanted → ℕ
@@ -31,22 +38,26 @@ givenVersion Version2 = 1
 abbrev pub only : (version : ℕ) → Range
 only version = version ‥ version
 
--- "17: a weight above 60,000 going back; place of the first such axle": a weight above the most that the wanted version has. From 1 to 2 there
--- is none, see `MayBeConverted`
-abbrev pub heavyFault : (most : ℕ) → Vehicle → (i : ℕ) → ℕ
-heavyFault most v i = 17 unless leb (weight (v .weights) i) most
+-- "17: a weight above 60,000 going back"
+abbrev pub weightFits : Wanted → (weight : ℕ) → Bool
+weightFits Version1 weight = leb weight 60000
+weightFits Version2 weight = true
 
-unfoldable pub heavyAnswer : (most : ℕ) → Vehicle → Reading
-heavyAnswer most v = firstFault 1 (each (heavyFault most v) (v .axles))
+-- "place of the first such axle"
+abbrev pub heavyFault : Wanted → Vehicle → (i : ℕ) → ℕ
+heavyFault wanted v i = 17 unless weightFits wanted (weight (v .weights) i)
 
--- the number of bytes, or the refusal; and the bytes, or none
-abbrev pub given : Reading → (bytes : ℕ) → Converted
-given Taken bytes = Written bytes
-given (Refused r) bytes = NotConverted r
+unfoldable pub heavyAnswer : Wanted → Vehicle → Reading
+heavyAnswer wanted v = firstFault 1 (each (heavyFault wanted v) (v .axles))
 
-abbrev pub unlessRefused : Reading → (bytes : List ℕ) → List ℕ
-unlessRefused Taken bytes = bytes
-unlessRefused (Refused r) bytes = []
+-- by the tests: how many bytes, or the refusal; and the bytes, or none
+abbrev pub answerBy : Reading → (bytes : ℕ) → Answer
+answerBy Taken bytes = Values (bytes ∷ [])
+answerBy (Refused r) bytes = refusedBy r
+
+abbrev pub bytesBy : Reading → (bytes : List ℕ) → List ℕ
+bytesBy Taken bytes = bytes
+bytesBy (Refused r) bytes = []
 
 module _ (wanted : Wanted) (file : List ℕ) where
   -- "with every number kept": the file of the same vehicle
@@ -57,17 +68,17 @@ module _ (wanted : Wanted) (file : List ℕ) where
   abbrev pub convertTests : (room : ℕ) → List Reading
   convertTests room =
       readVehicleOf (only (givenVersion wanted)) file .answer ∷
-      heavyAnswer (weightsIn (wantedVersion wanted) .high) (vehicleOf file) ∷
+      heavyAnswer wanted (vehicleOf file) ∷
       test 14 (leb (length output) room) ∷
       []
 
-  -- by the tests, for an output of so many bytes: "The number of bytes written comes back"
-  unfoldable pub converted : (room : ℕ) → Converted
-  converted room = given (firstRefusal (convertTests room)) (length output)
+  -- for an output of so many bytes
+  unfoldable pub converted : (room : ℕ) → Answer
+  converted room = answerBy (firstRefusal (convertTests room)) (length output)
 
   -- what is written: "A refusal writes nothing."
   unfoldable pub convertedBytes : (room : ℕ) → List ℕ
-  convertedBytes room = unlessRefused (firstRefusal (convertTests room)) output
+  convertedBytes room = bytesBy (firstRefusal (convertTests room)) output
 
   -- what the output then holds: "bytes beyond are kept"
   abbrev pub convertedOut : (out : List ℕ) → List ℕ

@@ -1,5 +1,5 @@
--- The bytes of a vehicle's file, in either version. Document 01, 'Files': "Little-endian. .. Vehicle: TBV, u16 version 1, u8 class, u16 track,
--- u8 axles, then per axle u16 weight and u16 distance"; document 02, request 9/13: "Vehicle version 2 stores a weight in four bytes".
+-- The bytes of a vehicle's file, in either version. Document 01, 'Files': "Little-endian. .. Vehicle: TBV, u16 version 1, u8 class, u16 track ..,
+-- u8 axles .., then per axle u16 weight .. and u16 distance"; document 02, request 9/13: "Vehicle version 2 stores a weight in four bytes".
 use Prim.Native.Nat.{ℕ, zero, suc, _+_, _*_, _/_, _%_}
 use mathlib.Core.List.{List, [], _∷_, _++_}
 use Rattle.section.specs.Units.{weight, distance}
@@ -13,7 +13,7 @@ bytesOf zero number = []
 bytesOf (suc width) number = number % 256 ∷ bytesOf width (number / 256)
 
 module _ (version : ℕ) (v : Vehicle) where
-  -- "TBV, u16 version, u8 class, u16 track, u8 axles"
+  -- "TBV, u16 version .., u8 class, u16 track .., u8 axles"
   abbrev pub headBytes : List ℕ
   headBytes = (84 ∷ 66 ∷ 86 ∷ []) ++ bytesOf 2 version ++ bytesOf 1 (v .class) ++ bytesOf 2 (v .track .0) ++ bytesOf 1 (v .axles)
 
@@ -30,5 +30,5 @@ module _ (version : ℕ) (v : Vehicle) where
   vehicleBytes = headBytes ++ axlesBytes (v .axles)
 
 -- the longest file: sixteen axles of version 2
-abbrev pub LONGEST : ℕ
-LONGEST = VEHICLE-HEADER + LONGEST-AXLE * MOST-AXLES
+abbrev pub LONGEST-FILE : ℕ
+LONGEST-FILE = VEHICLE-HEADER + LONGEST-AXLE * MOST-AXLES

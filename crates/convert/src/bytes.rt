@@ -11,14 +11,14 @@ ghost use lib.ListN.{length, take};
 ghost use lib.Seq.{paste};
 ghost use Rattle.member.specs.Fields.{MOST-AXLES};
 ghost use Rattle.vehicles.specs.VehicleFile.{VEHICLE-HEADER};
-ghost use Rattle.convert.specs.VehicleBytes.{LONGEST, bytesOf, headBytes, vehicleBytes};
+ghost use Rattle.convert.specs.VehicleBytes.{LONGEST-FILE, bytesOf, headBytes, vehicleBytes};
 
 // The longest file: sixteen axles of version 2.
-pub const LONGEST: usize = HEADER + LONGEST_AXLE * MOST_AXLES;
+pub const LONGEST_FILE: usize = HEADER + LONGEST_AXLE * MOST_AXLES;
 
 // A number in so many bytes, its low byte first, put into a row at a place.
-fn with_number(row: [u8; LONGEST], at: usize, width: usize, number: u64) -> [u8; LONGEST]
-    requires { ⌜ at + width ≤ LONGEST ⌝ }
+fn with_number(row: [u8; LONGEST_FILE], at: usize, width: usize, number: u64) -> [u8; LONGEST_FILE]
+    requires { ⌜ at + width ≤ LONGEST-FILE ⌝ }
     ensures { λ r. ⌜ r ≡ paste row at (bytesOf width number) width ⌝ }
 {
     let mut bytes = row;
@@ -33,8 +33,8 @@ fn with_number(row: [u8; LONGEST], at: usize, width: usize, number: u64) -> [u8;
 }
 
 // The first n of these bytes into the output; what is beyond is kept.
-pub fn put_bytes(out: &mut [u8], bytes: [u8; LONGEST], n: usize)
-    requires { ⌜ (n ≤ LONGEST) × (n ≤ length (now out)) ⌝ }
+pub fn put_bytes(out: &mut [u8], bytes: [u8; LONGEST_FILE], n: usize)
+    requires { ⌜ (n ≤ LONGEST-FILE) × (n ≤ length (now out)) ⌝ }
     ensures { λ r. ⌜ now (out .exit) ≡ paste (now (out .entry)) 0 bytes n ⌝ }
 {
     let mut i: usize = 0;
@@ -44,12 +44,11 @@ pub fn put_bytes(out: &mut [u8], bytes: [u8; LONGEST], n: usize)
     }
 }
 
-// "TBV, u16 version, u8 class, u16 track, u8 axles"
-fn head_bytes(v: Vehicle, version: u16) -> [u8; LONGEST]
-    requires { ⌜ v .axles ≤ MOST-AXLES ⌝ }
+// "TBV, u16 version .., u8 class, u16 track .., u8 axles"
+fn head_bytes(v: Vehicle, version: u16) -> [u8; LONGEST_FILE]
     ensures { λ r. ⌜ take VEHICLE-HEADER r ≡ headBytes version v ⌝ }
 {
-    let mut mark = [0u8; LONGEST];
+    let mut mark = [0u8; LONGEST_FILE];
     mark[0] = b'T';
     mark[1] = b'B';
     mark[2] = b'V';
@@ -59,8 +58,8 @@ fn head_bytes(v: Vehicle, version: u16) -> [u8; LONGEST]
     with_number(tracked, 8, 1, v.axles as u64)
 }
 
-// The vehicle's file in this version, and 0 behind it.
-pub fn vehicle_bytes(v: Vehicle, version: u16) -> [u8; LONGEST]
+// The vehicle's file in this version; what stands behind it is not looked at.
+pub fn vehicle_bytes(v: Vehicle, version: u16) -> [u8; LONGEST_FILE]
     requires { ⌜ v .axles ≤ MOST-AXLES ⌝ }
     ensures { λ r. ⌜ take (length (vehicleBytes version v)) r ≡ vehicleBytes version v ⌝ }
 {

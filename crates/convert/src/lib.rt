@@ -1,7 +1,7 @@
 // The converter: a vehicle file of one version becomes that of the other, with every number kept.
 mod bytes;
 
-use bytes::LONGEST;
+use bytes::LONGEST_FILE;
 use bytes::put_bytes;
 use bytes::vehicle_bytes;
 use files::Reading;
@@ -10,21 +10,20 @@ use files::answer::or_else;
 use files::answer::test;
 use files::limits::Limits;
 use files::words::wider;
-use files::words::widest;
 use member::record::Vehicle;
+use section::Kgf;
 use vehicles::VehicleRead;
 use vehicles::axle::HEADER;
 use vehicles::axle::axle_size;
-use vehicles::axle::most_weight;
 use vehicles::file::read_vehicle_of;
 ghost use mathlib.Core.Path.{_≡_};
 ghost use Prim.Native.Nat.{_≤_};
 ghost use lib.ListN.{length, take};
 ghost use Rattle.member.specs.Fields.{MOST-AXLES};
 ghost use Rattle.vehicles.specs.VehicleFile.{readVehicleOf};
-ghost use Rattle.convert.specs.VehicleBytes.{LONGEST};
+ghost use Rattle.convert.specs.VehicleBytes.{LONGEST-FILE};
 ghost use Rattle.convert.specs.declared.Converted.the-variants.{Refused as NotConverted};
-ghost use Rattle.convert.specs.Convert.{only, wantedVersion, givenVersion, heavyAnswer, converted, convertedBytes, convertedOut};
+ghost use Rattle.convert.specs.Convert.{convertAnswer, only, wantedVersion, givenVersion, weightFits, heavyAnswer, converted, convertedBytes, convertedOut};
 
 // The version that is wanted; the file has the other one.
 pub enum Wanted {
@@ -41,7 +40,7 @@ pub enum Converted {
 // What the call gives, and the bytes that it writes: none where it is refused.
 struct Work {
     answer: Converted,
-    bytes: [u8; LONGEST],
+    bytes: [u8; LONGEST_FILE],
     length: usize,
 }
 
@@ -75,16 +74,27 @@ fn read_given(file: &[u8], wanted: Wanted) -> VehicleRead
     read_vehicle_of(file, versions)
 }
 
-// 17 at the first axle that is heavier than this.
-fn heavy_answer(v: Vehicle, most: u64) -> Reading
+// Going back a weight is at most 60,000.
+fn weight_fits(wanted: Wanted, weight: Kgf) -> bool
+    ensures { λ r. ⌜ r ≡ weightFits wanted (weight .0) ⌝ }
+{
+    match wanted {
+        Wanted::Version1 => weight.0 <= 60000,
+        Wanted::Version2 => true,
+    }
+}
+
+// 17 at the first axle whose weight does not fit.
+fn heavy_answer(v: Vehicle, wanted: Wanted) -> Reading
     requires { ⌜ v .axles ≤ MOST-AXLES ⌝ }
-    ensures { λ r. ⌜ r ≡ heavyAnswer most v ⌝ }
+    ensures { λ r. ⌜ r ≡ heavyAnswer wanted v ⌝ }
 {
     let axles = v.axles;
     let mut answer = Reading::Taken;
     let mut i: usize = 0;
     while i < axles {
-        if most < v.weights[i].0 {
+        let weight = v.weights[i];
+        if !weight_fits(wanted, weight) {
             answer = Reading::Refused(Refusal {
                 number: 17,
                 place: (i + 1) as u64,
@@ -96,30 +106,31 @@ fn heavy_answer(v: Vehicle, most: u64) -> Reading
     answer
 }
 
-fn nothing(refusal: Refusal) -> Work
+// Where the call is refused no byte is written.
+fn refused_work(refusal: Refusal) -> Work
     ensures is { λ r. ⌜ r .answer ≡ NotConverted refusal ⌝ }
     ensures length { λ r. ⌜ r .length ≡ 0 ⌝ }
 {
     Work {
         answer: Converted::Refused(refusal),
-        bytes: [0; LONGEST],
+        bytes: [0; LONGEST_FILE],
         length: 0,
     }
 }
 
-// The bytes that are to be written, and how many. They are worked out before any is written, so that a refusal finds none.
+// The bytes that are to be written, and how many. They are worked out before any is written, so that a refusal has written none.
 fn work_out(file: &[u8], wanted: Wanted, room: usize) -> Work
-    ensures is { λ r. ⌜ r .answer ≡ converted wanted (now (file .entry)) room ⌝ }
+    ensures is { λ r. ⌜ convertAnswer (r .answer) ≡ converted wanted (now (file .entry)) room ⌝ }
     ensures bytes { λ r. ⌜ take (r .length) (r .bytes) ≡ convertedBytes wanted (now (file .entry)) room ⌝ }
     ensures length { λ r. ⌜ r .length ≡ length (convertedBytes wanted (now (file .entry)) room) ⌝ }
-    ensures cap { λ r. ⌜ (r .length ≤ LONGEST) × (r .length ≤ room) ⌝ }
+    ensures cap { λ r. ⌜ (r .length ≤ LONGEST-FILE) × (r .length ≤ room) ⌝ }
 {
     let read = read_given(file, wanted);
     let v = read.vehicle;
     let own = read.answer;
     let version = wanted_version(wanted);
     let length = HEADER + axle_size(version) * v.axles;
-    let heavy = heavy_answer(v, widest(most_weight(version)));
+    let heavy = heavy_answer(v, wanted);
     let answer = or_else(own, or_else(heavy, test(14, length <= room)));
     match answer {
         Reading::Taken => Work {
@@ -127,13 +138,13 @@ fn work_out(file: &[u8], wanted: Wanted, room: usize) -> Work
             bytes: vehicle_bytes(v, version),
             length,
         },
-        Reading::Refused(r) => nothing(r),
+        Reading::Refused(r) => refused_work(r),
     }
 }
 
 // A vehicle file of any length into the output, in the version that is wanted.
 pub fn convert(file: &[u8], wanted: Wanted, out: &mut [u8]) -> Converted
-    ensures is { λ r. ⌜ r ≡ converted wanted (now (file .entry)) (length (now (out .entry))) ⌝ }
+    ensures is { λ r. ⌜ convertAnswer r ≡ converted wanted (now (file .entry)) (length (now (out .entry))) ⌝ }
     ensures out { λ r. ⌜ now (out .exit) ≡ convertedOut wanted (now (file .entry)) (now (out .entry)) ⌝ }
 {
     let work = work_out(file, wanted, out.len());

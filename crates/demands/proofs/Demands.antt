@@ -45,7 +45,8 @@ use Rattle.between.specs.Fault.{no-vehicle}
 use Rattle.between.proofs.Pairs.{taken-survey-allowed, survey-members}
 use Rattle.between.proofs.Within.{record-at, counted}
 use Rattle.convert.specs.Claims.{written as converted-bytes}
-use Rattle.convert.proofs.Claims.{read-alike, convert-answered, convert-taken}
+use Rattle.vehicles.proofs.Alike.{read-alike}
+use Rattle.convert.proofs.Claims.{convert-answered, convert-taken}
 use Rattle.session.specs.Answers.{Outcome, Values, WithMargin, RefusedAt, refusedBy, judgementAnswer}
 use Rattle.session.specs.Calls.{newSession, members, stateFault, rateFault, judgeFault, loadSurvey, loadVehicle, storedSurvey, storedVehicle, unlessFault, rate, judge, judgeList, loadFiles, thenJudge, judgeFiles}
 use Rattle.demands.specs.Demands.{Demand1, Demand2, Demand3}

@@ -1,5 +1,5 @@
 -- The three demands, each a record whose parts stand under the sentence that they state. proofs/Demands.antt proves each of them, of
--- the calls' definitions (Calls, Yard, Readings, and convert/specs/Convert.antt); the contracts of `Session` and of `convert` tie the code to
+-- the calls' definitions (session/specs: Calls, Yard, Readings; convert/specs/Convert.antt); the contracts of `Session` and of `convert` tie the code to
 -- those.
 use Prim.Native.Nat.{ℕ, _<_}
 use mathlib.Core.Path.{_≡_}
@@ -22,7 +22,8 @@ use Rattle.files.specs.SurveyFile.{recordsOf, surveyOf}
 use Rattle.vehicles.specs.VehicleFile.{vehicleOf}
 use Rattle.files.specs.declared.Refusal.{Refusal}
 use Rattle.between.specs.declared.Between.{Between}
-use Rattle.convert.specs.Claims.{SameNumbers, Writes, written, ConvertAnswered, ConvertTaken}
+use Rattle.vehicles.specs.Alike.{SameNumbers}
+use Rattle.convert.specs.Claims.{Writes, written, ConvertAnswered, ConvertTaken}
 use Rattle.convert.specs.declared.Wanted.{Wanted}
 use Rattle.session.specs.Answers.{Values, RefusedAt, refusedBy, judgementAnswer}
 use Rattle.session.specs.Calls.{Valid, newSession, members, loadSurvey, loadVehicle, rate, judge, judgeList, judgeFiles}
@@ -121,7 +122,8 @@ pub record Demand3 : Type 0 where
   -- order puts it, and the claim about two surveys holds for every way of matching each record of the first with one of the second, no two
   -- with the same, whatever their places and versions; matched records are the shared members." Request 2/13: "what demand 3 says of the
   -- permitted loads, figure and verdicts of two surveys now has one more premise: a kind 7 record has the same rot in both surveys, deck rot
-  -- included. All else of the claim stands." `Falls` has the premise where it is asked
+  -- included. All else of the claim stands." `Falls` has the premise where it is asked. The vehicles are compared by their numbers, whatever the
+  -- versions of their files, request 9/13
   pub falling : (s s' : Session) (survey vehicle survey' vehicle' : List ℕ) → Holds s survey vehicle → Holds s' survey' vehicle' →
       (way : Matching (members s) (members s')) →
       Heavier (s .vehicle) (s' .vehicle) →

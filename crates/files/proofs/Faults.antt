@@ -13,11 +13,12 @@ use lib.Dec.{eqb}
 use borrow.Author.Tests.{eqb-true, eqb-false, ne-eqb}
 use Rattle.section.specs.Choose.{choose}
 use Rattle.files.specs.Words.{each}
-use Rattle.files.specs.Reading.{firstFault, orElse, test, numberOf, placeOf}
+use Rattle.files.specs.Reading.{_unless_, firstFault, orElse, test, numberOf, placeOf}
 use Rattle.files.specs.declared.Refusal.{Refusal}
 use Rattle.files.specs.declared.Reading.{Reading}
 use Rattle.files.specs.declared.Reading.the-variants.{Taken, Refused}
-use Rattle.files.proofs.Each.{each-split, length-each}
+use Rattle.files.proofs.Each.{each-split, length-each, getD-each}
+use Rattle.files.proofs.Tests.{passed, refutes}
 
 -- the answer for a fault at a place
 abbrev pub refusal : (number place : ℕ) → Reading
@@ -134,3 +135,26 @@ refused-at place (n ∷ ns) r e = go (eqb n 0) refl e (refused-at (suc place) ns
           fault = λ z. eqb-false n 0 t (number ∙ z);
           first = λ k l. absurd (omega arith);
         }
+
+-- a test of every index, with one number: all hold exactly where nothing is refused, and a refusal names the first that fails
+module _ (number : ℕ) (some : 0 < number) (test : ℕ → Bool) where
+  abbrev pub failing : ℕ → ℕ
+  failing i = number unless test i
+
+  pub all-hold : (n : ℕ) → firstFault 1 (each failing n) ≡ Taken → (i : ℕ) → i < n → test i ≡ true
+  all-hold n e i l = passed number (test i) some (sym (getD-each failing n i 0 l) ∙ taken-none 1 (each failing n) e i)
+
+  pub hold-all : (n : ℕ) → ((i : ℕ) → i < n → test i ≡ true) → firstFault 1 (each failing n) ≡ Taken
+  hold-all n h = none-taken 1 failing n (λ i l. ap (λ (b : Bool). number unless b) (h i l))
+
+  pub first-failing : (i n : ℕ) → i < n → ((k : ℕ) → k < i → test k ≡ true) → test i ≡ false → firstFault 1 (each failing n) ≡ refusal number (i + 1)
+  first-failing i n l before f = fault-at failing 1 i n number l (hold-all i before) (ap (λ (b : Bool). number unless b) f) (omega arith)
+
+  pub failing-named : (n : ℕ) (r : Refusal) → firstFault 1 (each failing n) ≡ Refused r → (i : ℕ) × (i < n) × ((k : ℕ) → k < i → test k ≡ true) × (test i ≡ false)
+  failing-named n r e =
+      let at = refused-at 1 (each failing n) r e in
+      let i : ℕ = r .place - 1 in
+      let inside : i < n = omega (arith, at .below, at .from, length-each failing n) in
+      let before : (k : ℕ) → k < i → test k ≡ true = λ k l. passed number (test k) some (sym (getD-each failing n k 0 (omega arith)) ∙ at .first k l) in
+      let fault : failing i ≡ 0 → ⊥ = λ z. at .fault (sym (at .number) ∙ getD-each failing n i 0 inside ∙ z) in
+      (i, inside, before, refutes {P = failing i ≡ 0} (test i) (λ h. ap (λ (b : Bool). number unless b) h) fault)

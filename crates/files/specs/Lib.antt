@@ -1,5 +1,6 @@
 pub mod Words
 pub mod Reading
+pub mod Answer
 pub mod Header
 pub mod Sequence
 pub mod SurveyFile

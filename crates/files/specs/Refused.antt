@@ -1,6 +1,6 @@
--- What a refusal says of its file, in plain words beside the ordered tests of `Header`, `SurveyFile` and `VehicleFile`: what it names has
--- the fault of its number, and nothing before that has any. proofs/ (Headers, Refusals, Sequences, Surveys, Vehicles) shows that the ordered tests
--- come to just this.
+-- What a refusal says of a file's head and of a survey file, in plain words beside the ordered tests of `Header` and `SurveyFile`: what it
+-- names has the fault of its number, and nothing before that has any. proofs/ (Headers, Refusals, Sequences, Surveys) shows that the ordered
+-- tests come to just this.
 use Prim.Native.Nat.{ℕ, _+_, _-_, _*_, _≤_, _<_}
 use mathlib.Core.Path.{_≡_}
 use mathlib.Core.Bool.{Bool, true, false}

@@ -15,6 +15,11 @@ Bytes bytes = (i : ℕ) → byteAt bytes i < 256
 abbrev pub wordAt : List ℕ → ℕ → ℕ
 wordAt bytes at = byteAt bytes at + 256 * byteAt bytes (at + 1)
 
+-- the number in so many bytes from a place on, its low byte first
+abbrev pub numberAt : (width : ℕ) → List ℕ → (at : ℕ) → ℕ
+numberAt zero bytes at = 0
+numberAt (suc width) bytes at = byteAt bytes at + 256 * numberAt width bytes (at + 1)
+
 -- f 0, f 1, .. up to f (n - 1)
 abbrev pub each {ℓ} : {X : Type ℓ} → (ℕ → X) → ℕ → List X
 each f zero = []

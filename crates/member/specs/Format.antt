@@ -1,5 +1,6 @@
 -- What the files may hold: the ranges, the fields that are used, the sections that suit a kind. Document 01, 'Net
--- section' (the table of codes) and 'Files'; code 5 and kind 7 from document 02, requests 1/13 and 2/13.
+-- section' (the table of codes) and 'Files'; code 5, kind 7 and the weights
+-- from document 02, requests 1/13, 2/13 and 9/13.
 use Prim.Native.Nat.{ℕ, _-_, _≤_, _<_}
 use mathlib.Core.Path.{_≡_}
 use mathlib.Core.Bool.{Bool, true, false, not, _&&_, _||_}

@@ -2,6 +2,7 @@
 use Prim.Native.Nat.{ℕ}
 use mathlib.Core.List.{List, [], _∷_}
 use lib.IntN.{ℤ}
+pub use Rattle.files.specs.Answer.{Answer, Values, WithMargin, RefusedAt, refusedBy}
 use Rattle.files.specs.declared.Reading.{Reading}
 use Rattle.files.specs.declared.Reading.the-variants.{Taken, Refused}
 use Rattle.files.specs.declared.Refusal.{Refusal}
@@ -30,13 +31,6 @@ use Rattle.session.specs.declared.yard.YardJudged.{YardJudged}
 use Rattle.session.specs.declared.yard.YardJudged.the-variants.{Passes}
 use Rattle.session.specs.declared.yard.YardJudged.the-variants.{Refused as NotYard}
 
--- The values of a call that succeeds, with a margin where the answer has one, or a number of the list of refusals with its place. "A refusal
--- carries its number and place, nothing else." Document 02, request 6/13: "each answer record gains that signed margin"
-pub data Answer : Type 0 where
-  Values : List ℕ → Answer
-  WithMargin : List ℕ → (margin : ℤ) → Answer
-  RefusedAt : (number place : ℕ) → Answer
-
 -- the number of an answer, 0 where the call succeeds, and its place
 abbrev pub numberOf : Answer → ℕ
 numberOf (Values values) = 0
@@ -53,9 +47,6 @@ abbrev pub valuesOf : Answer → List ℕ
 valuesOf (Values values) = values
 valuesOf (WithMargin values margin) = values
 valuesOf (RefusedAt number place) = []
-
-abbrev pub refusedBy : Refusal → Answer
-refusedBy r = RefusedAt (r .number) (r .place)
 
 -- pass is 1, refuse is 0
 abbrev pub verdictNumber : Verdict → ℕ

@@ -10,9 +10,9 @@ use borrow.Author.Tests.{eq-eqb, ne-eqb}
 use Rattle.section.specs.Choose.{choose}
 use Rattle.member.specs.Format.{Range, _‥_, In, weightRange}
 use lib.ListN.{length}
-use Rattle.files.specs.Words.{byteAt, wordAt}
+use Rattle.files.specs.Words.{byteAt, wordAt, numberAt}
 use Rattle.files.specs.Header.{versionOf}
-use Rattle.vehicles.specs.VehicleFile.{VEHICLE-HEADER, LONGEST-AXLE, numberAt, weightBytes, axleSize, axleAt, weightAt, distanceAt, WEIGHT, DISTANCE, axleField, weightsIn}
+use Rattle.vehicles.specs.VehicleFile.{VEHICLE-HEADER, LONGEST-AXLE, weightBytes, axleSize, axleAt, weightAt, distanceAt, WEIGHT, DISTANCE, axleField, weightsIn}
 
 -- a weight has four bytes in version 2, two in any other
 pub four-bytes : (version : ℕ) → version ≡ 2 → weightBytes version ≡ 4
@@ -23,17 +23,17 @@ pub two-bytes : (version : ℕ) → ¬ (version ≡ 2) → weightBytes version �
 unfolding weightBytes
 two-bytes version ne = rw (ne-eqb version 2 ne)
 
--- what holds of both numbers of bytes holds of a weight's
-pub of-weight-bytes : (P : ℕ → Type 0) (version : ℕ) → P 4 → P 2 → P (weightBytes version)
-unfolding weightBytes
-of-weight-bytes P version four two = go (eqb version 2)
+-- what holds of four bytes with their range and of two with theirs holds of every version
+pub of-version : (P : ℕ → Range → Type 0) (version : ℕ) → P 4 (1 ‥ 200000) → P 2 (1 ‥ 60000) → P (weightBytes version) (weightsIn version)
+unfolding weightBytes weightsIn
+of-version P version four two = go (eqb version 2)
   where
-    go : (b : Bool) → P (choose b 4 2)
+    go : (b : Bool) → P (choose b 4 2) (choose b (1 ‥ 200000) (1 ‥ 60000))
     go true = four
     go false = two
 
 pub some-bytes : (version : ℕ) → (2 ≤ weightBytes version) × (weightBytes version ≤ 4)
-some-bytes version = of-weight-bytes (λ n. (2 ≤ n) × (n ≤ 4)) version (omega arith, omega arith) (omega arith, omega arith)
+some-bytes version = of-version (λ n r. (2 ≤ n) × (n ≤ 4)) version (omega arith, omega arith) (omega arith, omega arith)
 
 pub longest-axle : (version : ℕ) → axleSize version ≤ LONGEST-AXLE
 longest-axle version = omega (arith, some-bytes version)
@@ -77,20 +77,10 @@ distance-field bytes i = refl
 
 -- the range of a weight begins at 1, and what a file of some version may hold is what a vehicle may be
 pub weights-from : (version : ℕ) → weightsIn version .low ≡ 1
-unfolding weightsIn
-weights-from version = go (eqb version 2)
-  where
-    go : (b : Bool) → choose b weightRange (1 ‥ 60000) .low ≡ 1
-    go true = refl
-    go false = refl
+weights-from version = of-version (λ n r. r .low ≡ 1) version refl refl
 
 pub lighter : (version w : ℕ) → In (weightsIn version) w → In weightRange w
-unfolding weightsIn
-lighter version w h = go (eqb version 2) h
-  where
-    go : (b : Bool) → In (choose b weightRange (1 ‥ 60000)) w → In weightRange w
-    go true h = h
-    go false h = (h .0, omega (arith, h .1))
+lighter version w = of-version (λ n r. In r w → In weightRange w) version (λ h. h) (λ h. (h .0, omega (arith, h .1)))
 
 -- the axle of index i lies within the first n
 pub axle-within : (version : ℕ) {i n : ℕ} → i < n → axleSize version * (i + 1) ≤ axleSize version * n

@@ -1,4 +1,5 @@
--- Cited by other crates: all three.
+-- Cited by other crates: all four.
 pub mod Axles
 pub mod Vehicles
+pub mod Alike
 pub mod Yards

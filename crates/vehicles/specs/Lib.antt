@@ -1,4 +1,5 @@
 pub mod VehicleFile
 pub mod Allowed
 pub mod Refused
+pub mod Alike
 pub mod YardFile

@@ -1,17 +1,18 @@
 -- Reading a vehicle file, with the tests in document 01's order. 'Files': "Vehicle: TBV, u16 version 1, u8 class, u16 track
 -- 100..300, u8 axles 1..16, then per axle u16 weight 1..60000 and u16 distance from the axle in front, 0 for the first,
 -- 1..2000 after." Document 02, request 9/13: "Vehicle version 2 stores a weight in four bytes, 1..200000. Both versions are read."
-use Prim.Native.Nat.{ℕ, zero, suc, _+_, _-_, _*_}
+use Prim.Native.Nat.{ℕ, _+_, _-_, _*_, _≤_, _<_}
+use mathlib.Core.Path.{_≡_}
 use mathlib.Core.List.{List, [], _∷_, _++_}
 use mathlib.Core.Bool.{Bool, _&&_}
-use lib.ListN.{replicate}
+use lib.ListN.{length, replicate}
 use lib.Dec.{eqb}
 use Rattle.member.specs.declared.record.Vehicle.{Vehicle}
 use Rattle.member.specs.Fields.{MOST-AXLES}
 use Rattle.section.specs.Choose.{choose, all}
 use Rattle.section.specs.Units.{centimetres, kgf}
-use Rattle.member.specs.Format.{Range, _‥_, classRange, trackRange, weightRange, laterRange}
-use Rattle.files.specs.Words.{byteAt, wordAt, each}
+use Rattle.member.specs.Format.{Range, _‥_, classRange, trackRange, laterRange}
+use Rattle.files.specs.Words.{byteAt, wordAt, numberAt, each}
 use Rattle.files.specs.Reading.{_unless_, firstOf, firstFault, isIn}
 use Rattle.files.specs.Header.{versionOf, headerFault}
 use Rattle.files.specs.declared.Reading.{Reading}
@@ -30,11 +31,6 @@ trackOf bytes = wordAt bytes 6
 
 abbrev pub axlesOf : List ℕ → ℕ
 axlesOf bytes = byteAt bytes 8
-
--- the number in so many bytes from a place on, its low byte first
-abbrev pub numberAt : (width : ℕ) → List ℕ → (at : ℕ) → ℕ
-numberAt zero bytes at = 0
-numberAt (suc width) bytes at = byteAt bytes at + 256 * numberAt width bytes (at + 1)
 
 -- "u16 weight"; "Vehicle version 2 stores a weight in four bytes"
 unfoldable pub weightBytes : (version : ℕ) → ℕ
@@ -57,6 +53,10 @@ weightAt bytes i = numberAt (weightBytes (versionOf bytes)) bytes (axleAt bytes 
 
 abbrev pub distanceAt : List ℕ → (i : ℕ) → ℕ
 distanceAt bytes i = wordAt bytes (axleAt bytes i + weightBytes (versionOf bytes))
+
+-- what the axle's numbers are read by: the file's version, and that the axle lies within the file
+abbrev pub HasAxle : List ℕ → (version i : ℕ) → Type 0
+HasAxle bytes version i = (version ≡ versionOf bytes) × (i < MOST-AXLES) × (axleAt bytes (i + 1) ≤ length bytes)
 
 -- the fields of an axle
 abbrev pub WEIGHT : ℕ
@@ -86,7 +86,7 @@ vehicleHeader versions bytes =
 
 -- "weight 1..60000"; of version 2 "1..200000"
 unfoldable pub weightsIn : (version : ℕ) → Range
-weightsIn version = choose (eqb version 2) weightRange (1 ‥ 60000)
+weightsIn version = choose (eqb version 2) (1 ‥ 200000) (1 ‥ 60000)
 
 -- "and u16 distance from the axle in front, 0 for the first, 1..2000 after"
 unfoldable pub axleRange : (version i f : ℕ) → Range

@@ -18,8 +18,8 @@ MOST-VEHICLES = 32
 abbrev pub vehiclesOf : (yard : List ℕ) → ℕ
 vehiclesOf yard = byteAt yard 0
 
--- "Each vehicle file is as long as its own counts say": of the bytes from its first on. Where fewer than nine are left `byteAt` is 0, so that
--- the length is nine and all that is left is taken
+-- "Each vehicle file is as long as its own counts say", by the axles of its own version, request 9/13: of the bytes from its first on. Where
+-- fewer than nine are left `byteAt` is 0, so that the length is nine and all that is left is taken
 abbrev pub ownLength : List ℕ → ℕ
 ownLength bytes = VEHICLE-HEADER + axleSize (versionOf bytes) * axlesOf bytes
 

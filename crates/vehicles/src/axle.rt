@@ -7,9 +7,8 @@ ghost use mathlib.Core.Path.{_≡_};
 ghost use Prim.Native.Nat.{_+_, _*_, _≤_, _<_};
 ghost use lib.ListN.{length};
 ghost use Rattle.member.specs.Fields.{MOST-AXLES};
-ghost use Rattle.files.specs.Words.{byteAt};
-ghost use Rattle.files.specs.Header.{versionOf};
-ghost use Rattle.vehicles.specs.VehicleFile.{VEHICLE-HEADER, LONGEST-AXLE, numberAt, weightBytes, axleSize, axleAt, weightAt, distanceAt, axleField, weightsIn, axleRange};
+ghost use Rattle.files.specs.Words.{byteAt, numberAt};
+ghost use Rattle.vehicles.specs.VehicleFile.{VEHICLE-HEADER, LONGEST-AXLE, weightBytes, axleSize, HasAxle, weightAt, distanceAt, axleField, weightsIn, axleRange};
 
 // The letters, the version, class, track and count.
 pub const HEADER: usize = 9;
@@ -71,7 +70,7 @@ fn axle_at(version: u16, axle: usize) -> usize
 }
 
 fn weight_at(bytes: &[u8], version: u16, axle: usize) -> u32
-    requires { ⌜ (version ≡ versionOf (now bytes)) × (axle < MOST-AXLES) × (axleAt (now bytes) (axle + 1) ≤ length (now bytes)) ⌝ }
+    requires { ⌜ HasAxle (now bytes) version axle ⌝ }
     ensures { λ r. ⌜ r ≡ weightAt (now (bytes .entry)) axle ⌝ }
 {
     let at = axle_at(version, axle);
@@ -83,7 +82,7 @@ fn weight_at(bytes: &[u8], version: u16, axle: usize) -> u32
 }
 
 fn distance_at(bytes: &[u8], version: u16, axle: usize) -> u32
-    requires { ⌜ (version ≡ versionOf (now bytes)) × (axle < MOST-AXLES) × (axleAt (now bytes) (axle + 1) ≤ length (now bytes)) ⌝ }
+    requires { ⌜ HasAxle (now bytes) version axle ⌝ }
     ensures { λ r. ⌜ r ≡ distanceAt (now (bytes .entry)) axle ⌝ }
 {
     let at = axle_at(version, axle);
@@ -92,7 +91,7 @@ fn distance_at(bytes: &[u8], version: u16, axle: usize) -> u32
 
 // The number in a field of an axle.
 pub fn axle_field(bytes: &[u8], version: u16, axle: usize, field: usize) -> u32
-    requires { ⌜ (version ≡ versionOf (now bytes)) × (axle < MOST-AXLES) × (axleAt (now bytes) (axle + 1) ≤ length (now bytes)) ⌝ }
+    requires { ⌜ HasAxle (now bytes) version axle ⌝ }
     ensures { λ r. ⌜ r ≡ axleField (now (bytes .entry)) axle field ⌝ }
 {
     if field == WEIGHT {

@@ -27,7 +27,7 @@ ghost use Rattle.files.specs.Header.{versionOf};
 ghost use Rattle.files.specs.Reading.{firstFault};
 ghost use Rattle.member.specs.Fields.{MOST-AXLES};
 ghost use Rattle.member.specs.Format.{_‥_};
-ghost use Rattle.vehicles.specs.VehicleFile.{AXLE-FIELDS, axleAt, axlesOf, fieldWithin, axleFaults, vehicleHeader, vehicleOf, blankVehicle, readVehicleOf, readVehicle};
+ghost use Rattle.vehicles.specs.VehicleFile.{axleAt, HasAxle, axlesOf, fieldWithin, axleFaults, vehicleHeader, vehicleOf, blankVehicle, readVehicleOf, readVehicle};
 
 // The header's fault, then 7 for class or track; or 0.
 fn vehicle_header(bytes: &[u8], versions: Limits) -> u64
@@ -52,7 +52,7 @@ fn vehicle_header(bytes: &[u8], versions: Limits) -> u64
 
 // The field is in its range.
 fn field_within(bytes: &[u8], version: u16, axle: usize, field: usize) -> bool
-    requires { ⌜ (version ≡ versionOf (now bytes)) × (axle < MOST-AXLES) × (axleAt (now bytes) (axle + 1) ≤ length (now bytes)) ⌝ }
+    requires { ⌜ HasAxle (now bytes) version axle ⌝ }
     ensures { λ r. ⌜ r ≡ fieldWithin (now (bytes .entry)) axle field ⌝ }
 {
     let range = axle_limits(version, axle, field);
@@ -151,7 +151,7 @@ pub fn read_vehicle_of(bytes: &[u8], versions: Limits) -> VehicleRead
     }
 }
 
-// In either version.
+// A vehicle file of any length, in either version.
 pub fn read_vehicle(bytes: &[u8]) -> VehicleRead
     ensures { λ r. ⌜ r ≡ readVehicle (now (bytes .entry)) ⌝ }
 {

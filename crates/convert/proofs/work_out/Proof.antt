@@ -36,14 +36,8 @@ mul-length c = product-fits LONGEST-AXLE MOST-AXLES tt (c .before .axle-size .en
 add-length : tie.Need-add-length
 add-length c = record { fits = omega (arith, product-cap LONGEST-AXLE MOST-AXLES (c .before .axle-size .ensures .1) (few (c .before .before .before .before))) }
 
-most-weight-requires : tie.Need-most-weight-requires
-most-weight-requires c κs = search needs
-
-widest-requires : tie.Need-widest-requires
-widest-requires c κs = search needs
-
 heavy-answer-requires : tie.Need-heavy-answer-requires
-heavy-answer-requires c κs = few (c .before .before .before .before .before .before)
+heavy-answer-requires c κs = few (c .before .before .before .before)
 
 test-requires : tie.Need-test-requires
 test-requires c κs = search needs
@@ -55,34 +49,33 @@ or-else-requires-2 : tie.Need-or-else-requires-2
 or-else-requires-2 c κs = search needs
 
 -- the tests' answer is the definition's
-answered : (c : tie.After-or-else2) → let a = c .before .before .before .before .before .before .before .before .before .before .before .before .args in
+answered : (c : tie.After-or-else2) → let a = c .before .before .before .before .before .before .before .before .before .before .args in
     c .or-else2 .result ≡ firstRefusal (convertTests (a .wanted) (now (a .file)) (a .room))
 answered c =
     let h = c .before .before .before in
-    let m = h .before .before in
-    let s = m .before .before in
+    let s = h .before .before in
     let w = s .before in
     let r = w .before .before in
     let a = r .before .before .args in
-    rw (c .or-else2 .ensures, c .before .or-else .ensures, c .before .before .test .ensures, h .heavy-answer .ensures, h .before .widest .ensures, m .most-weight .ensures, s .axle-size .ensures .0, w .wanted-version .ensures, r .read-given .ensures)
+    rw (c .or-else2 .ensures, c .before .or-else .ensures, c .before .before .test .ensures, h .heavy-answer .ensures, s .axle-size .ensures .0, w .wanted-version .ensures, r .read-given .ensures)
     (tests-are (a .wanted) (now (a .file)) (a .room))
 
 enum-told : tie.Need-enum-told
 enum-told c = search needs
 
 vehicle-bytes-requires : tie.Need-vehicle-bytes-requires
-vehicle-bytes-requires c κs = few (c .before .before .before .before .before .before .before .before .before .before .before .before)
+vehicle-bytes-requires c κs = few (c .before .before .before .before .before .before .before .before .before .before)
 
 enum-known-answer : tie.Need-enum-known-answer
 enum-known-answer c = search needs
 
-nothing-requires : tie.Need-nothing-requires
-nothing-requires c κs = search needs
+refused-work-requires : tie.Need-refused-work-requires
+refused-work-requires c κs = search needs
 
 returns : tie.Need-returns
 returns c =
     let o = c .before .before .before in
-    let s = o .before .before .before .before .before .before .before in
+    let s = o .before .before .before .before .before in
     let w = s .before in
     let r = w .before .before in
     let a = r .before .before .args in
@@ -96,8 +89,8 @@ returns c =
 returns-2 : tie.Need-returns-2
 returns-2 c =
     let o = c .before .before .before .before in
-    let a = o .before .before .before .before .before .before .before .before .before .before .before .before .args in
-    work-refused (a .wanted) (now (a .file)) (a .room) _ (sym (answered o) ∙ c .before .before .answer .given .1) (c .nothing .result .bytes) (c .nothing .ensures .0) (c .nothing .ensures .1)
+    let a = o .before .before .before .before .before .before .before .before .before .before .args in
+    work-refused (a .wanted) (now (a .file)) (a .room) _ (sym (answered o) ∙ c .before .before .answer .given .1) (c .refused-work .result .bytes) (c .refused-work .ensures .0) (c .refused-work .ensures .1)
 
 pub work-out-spec : {M : Type 1} → statement M
 work-out-spec =
@@ -108,8 +101,6 @@ work-out-spec =
     axle-size-requires
     mul-length
     add-length
-    most-weight-requires
-    widest-requires
     heavy-answer-requires
     test-requires
     or-else-requires
@@ -117,6 +108,6 @@ work-out-spec =
     enum-told
     vehicle-bytes-requires
     enum-known-answer
-    nothing-requires
+    refused-work-requires
     returns
     returns-2)

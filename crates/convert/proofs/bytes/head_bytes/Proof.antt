@@ -5,7 +5,7 @@ use mathlib.Core.Path.{refl}
 use mathlib.Core.List.{List}
 use lib.ListN.{set, replicate}
 use borrow.Author.Needs.{needs}
-use Rattle.convert.specs.VehicleBytes.{LONGEST}
+use Rattle.convert.specs.VehicleBytes.{LONGEST-FILE}
 use Rattle.convert.proofs.Files.{head-written}
 use Rattle.convert.proofs.bytes.head_bytes.Statement.{statement}
 use Rattle.convert.proofs.bytes.head_bytes.Tie as tie
@@ -37,7 +37,7 @@ with-number-requires-4 c κs = search needs
 returns : tie.Need-returns
 returns c =
     let a = c .before .before .before .before .before .args in
-    let mark : List ℕ = set (set (set (replicate LONGEST 0) 0 84) 1 66) 2 86 in
+    let mark : List ℕ = set (set (set (replicate LONGEST-FILE 0) 0 84) 1 66) 2 86 in
     rw (c .with-number4 .ensures, c .before .with-number3 .ensures, c .before .before .with-number2 .ensures, c .before .before .before .before .with-number .ensures)
     (head-written (a .version) (a .v) mark refl)
 

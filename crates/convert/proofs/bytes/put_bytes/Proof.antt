@@ -6,7 +6,7 @@ use native.Mathlib.Numerals.{add-one}
 use native.Mathlib.Omega.{arith}
 use lib.ListN.{length, getD, set}
 use lib.Seq.{paste, paste-zero, paste-suc, length-paste}
-use Rattle.convert.specs.VehicleBytes.{LONGEST}
+use Rattle.convert.specs.VehicleBytes.{LONGEST-FILE}
 use Rattle.convert.proofs.bytes.put_bytes.Statement.{statement}
 use Rattle.convert.proofs.bytes.put_bytes.Tie as tie
 
@@ -17,7 +17,7 @@ abbrev μ-loop : tie.MeasureT-loop
 μ-loop out₀ n bytes i₀ out i = n - i
 
 -- the array's length
-long : (c : tie.At-loop Inv-loop μ-loop) → length (c .before .args .t2) ≡ LONGEST
+long : (c : tie.At-loop Inv-loop μ-loop) → length (c .before .args .t2) ≡ LONGEST-FILE
 long c = c .before .good .1 .0 .1 .0 .1
 
 -- the output keeps its length

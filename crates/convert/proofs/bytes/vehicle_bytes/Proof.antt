@@ -9,7 +9,7 @@ use borrow.Author.Needs.{needs}
 use Rattle.section.proofs.Products.{product-cap, product-fits}
 use Rattle.vehicles.specs.VehicleFile.{VEHICLE-HEADER, LONGEST-AXLE, axleSize}
 use Rattle.vehicles.proofs.Axles.{longest-axle}
-use Rattle.convert.specs.VehicleBytes.{LONGEST, headBytes, axlesBytes}
+use Rattle.convert.specs.VehicleBytes.{LONGEST-FILE, headBytes, axlesBytes}
 use Rattle.convert.proofs.Files.{axle-written, all-written}
 use Rattle.convert.proofs.bytes.vehicle_bytes.Statement.{statement}
 use Rattle.convert.proofs.bytes.vehicle_bytes.Tie as tie
@@ -37,7 +37,7 @@ few c = omega (arith, c .before .before .before .before .before .pre)
 sizes : (c : tie.In-loop Inv-loop μ-loop) → let s = c .before .before .before in (s .axle-size .result ≡ s .before .weight-bytes .result + 2)
 sizes c = let s = c .before .before .before in s .axle-size .ensures .0 ∙ rw (s .before .weight-bytes .ensures .0)
 
-room : (c : tie.In-loop Inv-loop μ-loop) → let size = c .before .before .before .axle-size .result in VEHICLE-HEADER + size * c .before .loop .i + size ≤ LONGEST
+room : (c : tie.In-loop Inv-loop μ-loop) → let size = c .before .before .before .axle-size .result in VEHICLE-HEADER + size * c .before .loop .i + size ≤ LONGEST-FILE
 room c =
     let s = c .before .before .before in
     let i = c .before .loop .i in

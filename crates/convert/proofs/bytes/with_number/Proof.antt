@@ -6,7 +6,7 @@ use native.Mathlib.Numerals.{add-one}
 use native.Mathlib.Omega.{arith}
 use lib.ListN.{length, getD, drop}
 use lib.Seq.{paste, paste-zero, paste-suc}
-use Rattle.convert.specs.VehicleBytes.{LONGEST, bytesOf}
+use Rattle.convert.specs.VehicleBytes.{LONGEST-FILE, bytesOf}
 use Rattle.convert.proofs.Numbers.{length-bytes, next-byte}
 use Rattle.convert.proofs.bytes.with_number.Statement.{statement}
 use Rattle.convert.proofs.bytes.with_number.Tie as tie
@@ -18,7 +18,7 @@ abbrev μ-loop : tie.MeasureT-loop
 μ-loop at width number bytes₀ rest₀ i₀ bytes rest i = width - i
 
 -- the array's length
-long : (c : tie.At-loop Inv-loop μ-loop) → length (c .before .args .row) ≡ LONGEST
+long : (c : tie.At-loop Inv-loop μ-loop) → length (c .before .args .row) ≡ LONGEST-FILE
 long c = c .before .good .0 .1 .0 .1
 
 loop-holds : tie.Need-loop-holds Inv-loop μ-loop
