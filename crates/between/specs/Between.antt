@@ -1,6 +1,6 @@
 -- The bounds and the verdict of two surveys for a vehicle. Document 02, request 5/13: "Rot between two readings."
 use Prim.Native.Nat.{ℕ, zero, suc, _*_}
-use mathlib.Core.Bool.{Bool, not}
+use mathlib.Core.Bool.{not}
 use mathlib.Core.List.{List, [], _∷_, _++_}
 use lib.Dec.{eqb, leb}
 use lib.ListN.{length, drop}

@@ -1,11 +1,11 @@
 -- The converter's tests: those that the code makes come to the definition's, and what passes them all is written.
 -- Assumes nothing.
 use Prim.Native.Nat.{ℕ, _+_, _*_, _≤_}
-use mathlib.Core.Path.{_≡_, refl, sym, ap, _∙_}
-use mathlib.Core.List.{List, [], _++_}
+use mathlib.Core.Path.{_≡_, refl, ap}
+use mathlib.Core.List.{List}
 use native.Mathlib.Omega.{arith}
 use lib.Dec.{leb}
-use lib.ListN.{length, take, drop}
+use lib.ListN.{length, take}
 use lib.Seq.{paste}
 use borrow.Author.Tests.{leb-true, le-leb}
 use Rattle.section.proofs.Products.{product-cap}
@@ -16,11 +16,11 @@ use Rattle.files.specs.declared.Reading.{Reading}
 use Rattle.files.specs.declared.Reading.the-variants.{Taken, Refused}
 use Rattle.files.specs.declared.Refusal.{Refusal}
 use Rattle.files.proofs.Faults.{reading-case, both-taken, or-none, test-holds}
-use Rattle.vehicles.specs.VehicleFile.{VEHICLE-HEADER, LONGEST-AXLE, axleSize, weightsIn, vehicleOf, readVehicleOf}
+use Rattle.vehicles.specs.VehicleFile.{VEHICLE-HEADER, LONGEST-AXLE, axleSize, vehicleOf, readVehicleOf}
 use Rattle.vehicles.specs.declared.VehicleRead.{VehicleRead}
 use Rattle.vehicles.proofs.Axles.{longest-axle}
 use Rattle.vehicles.proofs.Vehicles.{taken-vehicle, taken-vehicle-allowed, refused-blank}
-use Rattle.convert.specs.VehicleBytes.{LONGEST-FILE, vehicleBytes}
+use Rattle.convert.specs.VehicleBytes.{LONGEST-FILE}
 use Rattle.convert.specs.Convert.{convertAnswer, wantedVersion, givenVersion, only, heavyAnswer, output, convertTests, converted, convertedBytes, convertedOut}
 use Rattle.convert.specs.declared.Wanted.{Wanted}
 use Rattle.convert.specs.declared.Converted.{Converted}

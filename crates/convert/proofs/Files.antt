@@ -1,9 +1,8 @@
 -- The bytes of a vehicle's file: how many they are, and that they stand where the loop puts them.
 -- Assumes nothing.
-use Prim.Native.Nat.{ℕ, zero, suc, _+_, _*_, _≤_, _<_}
-use mathlib.Core.Path.{_≡_, refl, sym, ap, _∙_}
+use Prim.Native.Nat.{ℕ, zero, suc, _+_, _*_, _≤_}
+use mathlib.Core.Path.{_≡_, refl, ap, _∙_}
 use mathlib.Core.List.{List, [], _∷_, _++_, append-assoc}
-use native.Mathlib.Decide.{decLt}
 use native.Mathlib.Numerals.{add-one}
 use native.Mathlib.Omega.{arith}
 use lib.ListN.{length, take, length-append, length-take}
@@ -11,7 +10,7 @@ use lib.Seq.{paste, take-paste, take-all}
 use Rattle.section.specs.Units.{weight, distance}
 use Rattle.member.specs.declared.record.Vehicle.{Vehicle}
 use Rattle.vehicles.specs.VehicleFile.{VEHICLE-HEADER, weightBytes, axleSize}
-use Rattle.convert.specs.VehicleBytes.{bytesOf, headBytes, axleBytes, axlesBytes, vehicleBytes}
+use Rattle.convert.specs.VehicleBytes.{bytesOf, headBytes, axlesBytes, vehicleBytes}
 use Rattle.convert.proofs.Numbers.{length-bytes}
 
 -- what is put behind the first bytes of a row

@@ -1,17 +1,16 @@
 -- The numbers of a vehicle's file are the vehicle's.
 -- Assumes nothing.
-use Prim.Native.Nat.{ℕ, zero, suc, _+_, _*_, _≤_, _<_}
-use mathlib.Core.Path.{_≡_, refl, sym, ap, _∙_}
-use mathlib.Core.List.{List, [], _∷_, _++_, append-assoc}
+use Prim.Native.Nat.{ℕ, zero, suc, _+_, _*_, _<_}
+use mathlib.Core.Path.{_≡_, sym, ap, _∙_}
+use mathlib.Core.List.{List, [], _++_, append-assoc}
 use native.Mathlib.Decide.{decLt}
 use native.Mathlib.Omega.{arith}
 use lib.ListN.{length, length-append}
-use Rattle.section.specs.Units.{weight, distance, kgf, centimetres}
+use Rattle.section.specs.Units.{weight, distance}
 use Rattle.member.specs.declared.record.Vehicle.{Vehicle}
 use Rattle.files.specs.Header.{versionOf}
-use Rattle.files.specs.Words.{wordAt, numberAt}
-use Rattle.files.proofs.Each.{each-same}
-use Rattle.vehicles.specs.VehicleFile.{VEHICLE-HEADER, weightBytes, axleSize, classOf, trackOf, axlesOf, weightAt, distanceAt, vehicleOf}
+use Rattle.files.specs.Words.{numberAt}
+use Rattle.vehicles.specs.VehicleFile.{VEHICLE-HEADER, weightBytes, axleSize, classOf, trackOf, axlesOf, weightAt, distanceAt}
 use Rattle.vehicles.proofs.Axles.{two-bytes-at}
 use Rattle.convert.specs.VehicleBytes.{bytesOf, headBytes, axleBytes, axlesBytes, vehicleBytes}
 use Rattle.convert.proofs.Numbers.{FitsIn, length-bytes, number-written}

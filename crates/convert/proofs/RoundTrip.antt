@@ -3,16 +3,12 @@
 -- Assumes nothing.
 use Prim.Native.Nat.{ℕ, zero, suc, _+_, _*_, _≤_, _<_}
 use mathlib.Core.Path.{_≡_, refl, sym, ap, _∙_}
-use mathlib.Core.Bool.{Bool, true, false}
 use mathlib.Core.List.{List, [], _∷_, _++_}
-use native.Mathlib.Nat.{mul-le-mul-left}
 use native.Mathlib.Omega.{arith}
-use lib.Dec.{eqb}
 use lib.ListN.{length, take}
 use lib.Seq.{take-all}
-use Rattle.section.specs.Choose.{choose}
 use Rattle.section.specs.Units.{weight, distance}
-use Rattle.member.specs.Format.{Range, _‥_, In, weightRange}
+use Rattle.member.specs.Format.{Range, In}
 use Rattle.files.specs.Header.{versionOf}
 use Rattle.files.specs.Words.{Bytes, byteAt, wordAt, numberAt}
 use Rattle.vehicles.specs.VehicleFile.{VEHICLE-HEADER, weightBytes, axleSize, axleAt, classOf, trackOf, axlesOf, weightAt, distanceAt, weightsIn, vehicleOf}
@@ -22,7 +18,7 @@ use Rattle.vehicles.proofs.Vehicles.{weight-is, distance-is}
 use Rattle.convert.specs.VehicleBytes.{bytesOf, headBytes, axlesBytes, vehicleBytes}
 use Rattle.convert.specs.Convert.{only}
 use Rattle.vehicles.specs.Alike.{SameNumbers}
-use Rattle.convert.proofs.Numbers.{FitsIn, window, windows, beside, number-read}
+use Rattle.convert.proofs.Numbers.{FitsIn, window, beside, number-read}
 use Rattle.convert.proofs.Files.{length-vehicle}
 use Rattle.vehicles.proofs.Alike.{same-vehicle}
 use Rattle.convert.proofs.Kept.{version-written, class-written, track-written, axles-written, weight-written, distance-written}

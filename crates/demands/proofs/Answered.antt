@@ -1,6 +1,6 @@
 -- Where both files are loaded rate and judge answer and write what demand 2 says.
 -- Assumes nothing.
-use Prim.Native.Nat.{ℕ, _+_, _<_}
+use Prim.Native.Nat.{_+_, _<_}
 use native.Mathlib.Nat.{add-sub-cancel}
 use native.Mathlib.Omega.{arith}
 use lib.ListN.{length}

@@ -1,15 +1,14 @@
 -- What the tests of the state say where they find no fault, and that every call leaves a valid session.
 -- Assumes nothing.
-use Prim.Native.Nat.{ℕ, _+_, _*_, _≤_, _<_}
+use Prim.Native.Nat.{ℕ, _*_, _≤_, _<_}
 use mathlib.Core.Path.{_≡_}
 use mathlib.Core.Bool.{not}
 use mathlib.Core.List.{List, [], _∷_}
 use native.Mathlib.Decide.{decLe}
-use native.Mathlib.Nat.{add-sub-cancel}
 use native.Mathlib.Omega.{arith}
 use Rattle.member.specs.Fields.{MOST-MEMBERS}
 use lib.Dec.{eqb, leb}
-use lib.ListN.{length, replicate}
+use lib.ListN.{replicate}
 use borrow.Author.Tests.{ne-eqb, le-leb, leb-true}
 use Rattle.member.specs.Format.{In, _‥_}
 use Rattle.files.specs.Reading.{_unless_, isIn}
@@ -23,7 +22,7 @@ use Rattle.files.proofs.Tests.{not-none, none, passed, in-range, range-in}
 use Rattle.vehicles.proofs.Vehicles.{taken-vehicle-allowed}
 use Rattle.between.proofs.Pairs.{taken-survey-allowed}
 use Rattle.session.specs.Answers.{loaded, judged, judgeAnswer, refusedBy}
-use Rattle.session.specs.Calls.{Valid, newSession, stateFault, rateFault, judgeFault, loadSurvey, loadVehicle, rate, judge, judgeList, loadFiles, thenJudge}
+use Rattle.session.specs.Calls.{Valid, newSession, stateFault, rateFault, judgeFault, loadSurvey, loadVehicle, judge, loadFiles, thenJudge}
 use Rattle.session.specs.declared.AfterJudge.{AfterJudge}
 use Rattle.session.specs.declared.AfterLoad.{AfterLoad}
 use Rattle.session.specs.declared.Session.{Session}

@@ -1,11 +1,9 @@
 -- The answers' numbers: a number and values for every case of each answer, those of the documents where they have them.
 use Prim.Native.Nat.{ℕ}
 use mathlib.Core.List.{List, [], _∷_}
-use lib.IntN.{ℤ}
 pub use Rattle.files.specs.Answer.{Answer, Values, WithMargin, RefusedAt, refusedBy}
 use Rattle.files.specs.declared.Reading.{Reading}
 use Rattle.files.specs.declared.Reading.the-variants.{Taken, Refused}
-use Rattle.files.specs.declared.Refusal.{Refusal}
 use Rattle.rating.specs.declared.judging.Judgement.{Judgement}
 use Rattle.rating.specs.declared.judging.Rating.{Rating}
 use Rattle.rating.specs.declared.judging.Verdict.{Verdict}

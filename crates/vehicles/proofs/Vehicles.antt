@@ -12,11 +12,11 @@ use Rattle.section.specs.Units.{centimetres, kgf, weight, distance}
 use Rattle.section.specs.declared.Cm.{Cm}
 use Rattle.section.specs.declared.Kgf.{Kgf}
 use Rattle.member.specs.declared.record.Vehicle.{Vehicle}
-use Rattle.member.specs.Format.{Range, _‥_, In, classRange, trackRange, weightRange, laterRange, AllowedVehicle}
+use Rattle.member.specs.Format.{Range, _‥_, In, classRange, trackRange, laterRange, AllowedVehicle}
 use Rattle.files.specs.Reading.{_unless_, firstOf, firstFault, isIn}
 use Rattle.files.specs.Header.{versionOf, headerFault}
 use Rattle.member.specs.Fields.{MOST-AXLES}
-use Rattle.vehicles.specs.VehicleFile.{VEHICLE-HEADER, AXLE-FIELDS, WEIGHT, DISTANCE, axleSize, axlesOf, classOf, trackOf, axleField, weightAt, distanceAt, weightsIn, axleRange, vehicleHeader, fieldWithin, axleWithin, axleFault, axleFaults, vehicleAnswer, blankVehicle, vehicleOf, vehicleBy, readVehicleOf}
+use Rattle.vehicles.specs.VehicleFile.{VEHICLE-HEADER, AXLE-FIELDS, WEIGHT, DISTANCE, axleSize, axlesOf, classOf, trackOf, weightAt, distanceAt, weightsIn, axleRange, vehicleHeader, fieldWithin, axleWithin, axleFault, axleFaults, vehicleAnswer, blankVehicle, vehicleOf, vehicleBy, readVehicleOf}
 use Rattle.vehicles.specs.Allowed.{AllowedVehicleOf}
 use Rattle.vehicles.specs.Refused.{FieldGood, VehicleHeaded, Fronted, FrontFault, wrong-header, wrong-class-or-track, FirstAxle, VehicleRefusalOf}
 use Rattle.files.specs.declared.Refusal.{Refusal}

@@ -1,7 +1,7 @@
 -- A yard's bytes as vehicle files: one more of them is cut off what is left, what is cut off and what is left make up the bytes, and
 -- allowed files that are joined are cut as they were.
 -- Assumes nothing.
-use Prim.Native.Nat.{ℕ, zero, suc, _+_, _<_, min}
+use Prim.Native.Nat.{ℕ, zero, suc, _<_, min}
 use mathlib.Core.Path.{_≡_, refl, sym, ap, _∙_}
 use mathlib.Core.List.{List, [], _∷_, _++_, append-assoc}
 use native.Mathlib.Decide.{decLe}

@@ -21,7 +21,7 @@ use member::record::Vehicle;
 use section::Cm;
 use section::Kgf;
 ghost use mathlib.Core.Path.{_≡_};
-ghost use Prim.Native.Nat.{_+_, _*_, _≤_, _<_};
+ghost use Prim.Native.Nat.{_≤_, _<_};
 ghost use lib.ListN.{length};
 ghost use Rattle.files.specs.Header.{versionOf};
 ghost use Rattle.files.specs.Reading.{firstFault};

@@ -2,7 +2,6 @@
 -- Assumes nothing.
 use mathlib.Core.Path.{refl}
 use native.Mathlib.Omega.{arith}
-use borrow.Author.Needs.{needs}
 use Rattle.convert.proofs.refused_work.Statement.{statement}
 use Rattle.convert.proofs.refused_work.Tie as tie
 

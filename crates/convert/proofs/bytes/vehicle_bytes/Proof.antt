@@ -6,9 +6,8 @@ use mathlib.Core.List.{_++_, append-nil}
 use native.Mathlib.Omega.{arith}
 use lib.ListN.{take}
 use borrow.Author.Needs.{needs}
-use Rattle.section.proofs.Products.{product-cap, product-fits}
+use Rattle.section.proofs.Products.{product-cap}
 use Rattle.vehicles.specs.VehicleFile.{VEHICLE-HEADER, LONGEST-AXLE, axleSize}
-use Rattle.vehicles.proofs.Axles.{longest-axle}
 use Rattle.convert.specs.VehicleBytes.{LONGEST-FILE, headBytes, axlesBytes}
 use Rattle.convert.proofs.Files.{axle-written, all-written}
 use Rattle.convert.proofs.bytes.vehicle_bytes.Statement.{statement}

@@ -1,10 +1,10 @@
 -- `with_number` meets its contract. The loop's invariant: the first i bytes are put, and what is left of the number has the bytes that are left.
 -- Assumes nothing.
-use Prim.Native.Nat.{ℕ, suc, _+_, _-_, _%_, _/_, _≤_, _<_}
-use mathlib.Core.Path.{_≡_, refl, sym, ap, _∙_}
+use Prim.Native.Nat.{suc, _-_, _≤_, _<_}
+use mathlib.Core.Path.{_≡_}
 use native.Mathlib.Numerals.{add-one}
 use native.Mathlib.Omega.{arith}
-use lib.ListN.{length, getD, drop}
+use lib.ListN.{length, drop}
 use lib.Seq.{paste, paste-zero, paste-suc}
 use Rattle.convert.specs.VehicleBytes.{LONGEST-FILE, bytesOf}
 use Rattle.convert.proofs.Numbers.{length-bytes, next-byte}
