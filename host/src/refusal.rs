@@ -2,7 +2,7 @@
 
 use crate::file::MOST_VEHICLES;
 use crate::form::{
-    AxleLayout, Layout, Value, ALL_SPECIES, FIRST_VERSION, KINDS, ORDER, ORDERED_FROM,
+    AxleLayout, Layout, Limits, ALL_SPECIES, FIRST_VERSION, KINDS, ORDER, ORDERED_FROM,
 };
 use std::fmt;
 
@@ -32,8 +32,8 @@ pub struct Refusal {
     /// The number: 1 length, 2 mark or version, 3 count, 4 kind, 5 species, 6 section code,
     /// 7 a number outside its range, 8 an unused field that is not 0; 15 the second of two surveys
     /// that is not the first worn as much or more; 16 a member that stands before its predecessor in
-    /// the order of version 2. Of a vehicle that is to be written in another version: 2 it has that
-    /// version already, 14 the output is too short, 17 a weight that version 1 cannot hold.
+    /// the order of version 2. Of a vehicle that is to be written in another version, which no call
+    /// of this crate does: 14 the output is too short, 17 a weight that version 1 cannot hold.
     pub number: u64,
     /// The member or axle at fault, from 1; 0 where the fault is in none of them.
     pub place: u64,
@@ -46,10 +46,8 @@ pub(crate) const TOO_HEAVY: u64 = 17;
 
 /// The greatest weight of an axle in the first version of a vehicle.
 fn light_weight() -> String {
-    match AxleLayout::of(FIRST_VERSION).other[0].value {
-        Value::Number(limits) => format!("{} {}", limits.greatest, limits.unit),
-        Value::Word(_) => String::new(),
-    }
+    let Limits { greatest, unit, .. } = AxleLayout::of(FIRST_VERSION).weight;
+    format!("{greatest} {unit}")
 }
 
 const NO_WORDS: &str = "a refusal number that has no words here";

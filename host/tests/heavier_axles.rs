@@ -93,8 +93,9 @@ fn weights_beside_a_wrong_version() {
     }
 }
 
-/// The text form has a fault for just those vehicles that the library refuses, the first of them at
-/// the same axle and field; the versions take turns.
+/// Vehicles of both versions by turns, half of each with one weight that its version does not take:
+/// the text form has a fault for just those that the library refuses, of that weight and no other
+/// number.
 #[test]
 fn the_text_form_asks_for_the_librarys_limits() {
     let seed = common::seed(0x09ea_2001);
@@ -156,8 +157,9 @@ fn refusals_14_and_17_in_words() {
     assert_eq!(heavy.to_string(), format!("vehicle refused, number 17 at axle 3: {words}"));
     let explained: Vec<String> =
         explain(TRAILER, &heavy).iter().map(|fault| fault.to_string()).collect();
-    assert_eq!(explained, [format!("weight: 73000 is outside 1 to 60000 kgf{HEAVIER}")]);
+    assert_eq!(explained, ["weight: 73000 kgf is above the 60000 kgf that version 1 holds"]);
     assert_eq!(numbers(TRAILER, &heavy), [("weight", 73_000), ("distance", 160)]);
+    assert_eq!(explain(&sample("lorry.tbv"), &refusal(17, 1)), [], "a lorry fits");
     let short = refusal(14, 0);
     let words = "the output is too short for the file in the other version";
     assert_eq!(short.to_string(), format!("vehicle refused, number 14: {words}"));

@@ -77,7 +77,8 @@ fn headings_with_a_version() {
         ("survey, 2", "'2': there is no such field here"),
         (
             "survey version 2",
-            "heading: the first line must be 'survey', 'survey, version N' or 'vehicle, ..'",
+            "heading: the first line must be 'survey', 'survey, version N', 'vehicle, ..' \
+             or 'vehicle, version N, ..'",
         ),
     ] {
         let text = format!("# a bridge\n{heading}\n{member}");

@@ -210,8 +210,8 @@ fn stringer(from: &str, to: &str) -> String {
     error(&format!("survey\n\n{}\n", STRINGER.replace(from, to)))
 }
 
-const HEADING_FAULT: &str =
-    "heading: the first line must be 'survey', 'survey, version N' or 'vehicle, ..'";
+const HEADING_FAULT: &str = "heading: the first line must be 'survey', 'survey, version N', \
+                             'vehicle, ..' or 'vehicle, version N, ..'";
 
 #[test]
 fn errors_of_the_heading() {

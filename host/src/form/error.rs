@@ -110,6 +110,17 @@ pub enum Problem {
         /// Where the other stands.
         at: String,
     },
+    /// The number is above what a version of the file holds, and the file is to go to that version.
+    TooGreatFor {
+        /// The version.
+        version: u16,
+        /// The number.
+        found: u32,
+        /// The greatest that the version holds.
+        greatest: u32,
+        /// The unit of both.
+        unit: &'static str,
+    },
     /// The field is unused, and not 0.
     Unused {
         /// The number.
@@ -157,7 +168,8 @@ impl fmt::Display for Problem {
         match self {
             Problem::NotText => write!(f, "this is not text (UTF-8)"),
             Problem::NoHeading => {
-                write!(f, "the first line must be 'survey', 'survey, version N' or 'vehicle, ..'")
+                write!(f, "the first line must be 'survey', 'survey, version N', ")?;
+                write!(f, "'vehicle, ..' or 'vehicle, version N, ..'")
             }
             Problem::NoRecord => write!(f, "none follows the heading"),
             Problem::TooMany { most } => write!(f, "a file holds at most {most}"),
@@ -187,6 +199,10 @@ impl fmt::Display for Problem {
             Problem::OutOfOrder { found, greater, at } => {
                 write!(f, "{found} is below the {greater} of {at}; ")?;
                 write!(f, "from version {ORDERED_FROM} members stand {ORDER}")
+            }
+            Problem::TooGreatFor { version, found, greatest, unit } => {
+                let (found, greatest) = (with_unit(found, unit), with_unit(greatest, unit));
+                write!(f, "{found} is above the {greatest} that version {version} holds")
             }
             Problem::Unused { found, why } => write!(f, "{found} must be 0: {why}"),
         }

@@ -1,7 +1,7 @@
 //! A refused record of a file, field by field: which number is at fault, and what it may be.
 
 use super::error::{FieldFault, Problem};
-use super::field::Field;
+use super::field::{Field, Limits};
 use super::order;
 use super::tables::*;
 use super::write::{kind_of, section_of};
@@ -106,13 +106,11 @@ enum Record {
     Axle(&'static [Field; 2], Axle),
 }
 
-/// An axle with what its fields may be: in its own version, and where it is too heavy to go back to
-/// the first, in that one.
-fn axle(bytes: &[u8], number: u64, place: usize) -> Option<Record> {
+/// An axle with what its fields may be in the file's own version.
+fn axle(bytes: &[u8], place: usize) -> Option<Record> {
     let vehicle = file::vehicle(bytes)?;
-    let version = if number == TOO_HEAVY { FIRST_VERSION } else { vehicle.version };
     let words = *vehicle.axles.get(place.checked_sub(1)?)?;
-    Some(Record::Axle(AxleLayout::of(version).fields(place), words))
+    Some(Record::Axle(AxleLayout::of(vehicle.version).fields(place), words))
 }
 
 /// None for a refusal of the length, the mark or the count, which are the numbers below 4, or of an
@@ -126,8 +124,16 @@ fn record(bytes: &[u8], refusal: &Refusal) -> Option<Record> {
             file::members(bytes).get(place - 1).map(|words| Record::Member(*words))
         }
         (Which::Vehicle, 0) => Some(Record::Heading(file::vehicle(bytes)?.heading)),
-        (Which::Vehicle, _) => axle(bytes, refusal.number, place),
+        (Which::Vehicle, _) => axle(bytes, place),
     }
+}
+
+/// Number 17: the weight of an axle that is above what the first version holds.
+fn too_heavy([weight, _]: &[Field; 2], words: &Axle) -> Option<FieldFault> {
+    let (version, found) = (FIRST_VERSION, weight.of(words)?);
+    let Limits { greatest, unit, .. } = AxleLayout::of(version).weight;
+    let problem = Problem::TooGreatFor { version, found, greatest, unit };
+    (found > greatest).then(|| FieldFault { field: weight.name.to_string(), problem })
 }
 
 /// The fields that the refusal of this file is about, each with its value and what it may be. None
@@ -140,6 +146,9 @@ pub fn explain(bytes: &[u8], refusal: &Refusal) -> Vec<FieldFault> {
         }
         Some(Record::Member(words)) => member(&words, refusal.number).unwrap_or_default(),
         Some(Record::Heading(words)) => wrong(&HEADING, &words, name),
+        Some(Record::Axle(fields, words)) if refusal.number == TOO_HEAVY => {
+            too_heavy(fields, &words).into_iter().collect()
+        }
         Some(Record::Axle(fields, words)) => wrong(fields, &words, name),
         None => Vec::new(),
     }

@@ -76,7 +76,11 @@ pub const fn number(
     greatest: u32,
     unit: &'static str,
 ) -> Field {
-    let limits = Limits { least, greatest, unit, later: None };
+    limited(name, word, Limits { least, greatest, unit, later: None })
+}
+
+/// A number field with these limits.
+pub const fn limited(name: &'static str, word: usize, limits: Limits) -> Field {
     Field { name, word, value: Value::Number(limits), within: None }
 }
 
@@ -89,17 +93,6 @@ impl Field {
     /// The same field, with a limit that another sets.
     pub(super) const fn within(self, within: Within) -> Field {
         Field { within: Some(within), ..self }
-    }
-
-    /// The same number field, of which a later version of the file takes more.
-    pub(super) const fn until(self, later: Later) -> Field {
-        match self.value {
-            Value::Number(limits) => {
-                let limits = Limits { later: Some(later), ..limits };
-                Field { value: Value::Number(limits), ..self }
-            }
-            Value::Word(_) => self,
-        }
     }
 
     /// Its number in a record; None where the record is too short to hold it. Most records hold

@@ -1,7 +1,7 @@
 //! The one place for what the files may hold: marks, versions and counts, the fields of each kind
 //! of member, of each section and of a vehicle, with their limits.
 
-use super::field::{number, words, Field, Later, Within};
+use super::field::{limited, number, words, Field, Later, Limits, Within};
 use crate::refusal::Which;
 
 /// What a file opens with, and its records.
@@ -261,6 +261,8 @@ pub struct AxleLayout {
     pub version: u16,
     /// The bytes of a weight; a distance has two.
     pub weight_bytes: usize,
+    /// The limits of a weight.
+    pub weight: Limits,
     /// The fields of the first axle: it has no axle in front.
     pub first: [Field; 2],
     /// Those of the others: the distance is from the axle in front.
@@ -268,19 +270,23 @@ pub struct AxleLayout {
 }
 
 /// An axle whose weight has so many bytes.
-const fn axle(version: u16, weight_bytes: usize, weight: Field) -> AxleLayout {
+const fn axle(version: u16, weight_bytes: usize, weight: Limits) -> AxleLayout {
+    let field = limited("weight", 0, weight);
     AxleLayout {
         version,
         weight_bytes,
-        first: [weight, number("distance", 1, 0, 0, "cm")],
-        other: [weight, number("distance", 1, 1, 2000, "cm")],
+        weight,
+        first: [field, number("distance", 1, 0, 0, "cm")],
+        other: [field, number("distance", 1, 1, 2000, "cm")],
     }
 }
 
-const HEAVIEST: u32 = 200_000;
-const HEAVY_WEIGHT: Field = number("weight", 0, 1, HEAVIEST, "kgf");
-const LIGHT_WEIGHT: Field = number("weight", 0, 1, 60_000, "kgf")
-    .until(Later { version: HEAVY.version, greatest: HEAVIEST });
+const HEAVY_WEIGHT: Limits = Limits { least: 1, greatest: 200_000, unit: "kgf", later: None };
+const LIGHT_WEIGHT: Limits = Limits {
+    greatest: 60_000,
+    later: Some(Later { version: HEAVY.version, greatest: HEAVY_WEIGHT.greatest }),
+    ..HEAVY_WEIGHT
+};
 const HEAVY: AxleLayout = axle(2, 4, HEAVY_WEIGHT);
 const LIGHT: AxleLayout = axle(FIRST_VERSION, 2, LIGHT_WEIGHT);
 
