@@ -4,7 +4,7 @@ mod cli;
 
 use cli::{answer, run, sample, tbr, text, Folder};
 use std::path::Path;
-use tbr::form::{AxleLayout, Field, Value, FIRST_VERSION, HEADING, KINDS, ORDER, SECTIONS};
+use tbr::form::{AxleLayout, Field, Value, AXLES, FIRST_VERSION, HEADING, KINDS, ORDER, SECTIONS};
 use tbr::Which;
 
 #[test]
@@ -436,14 +436,14 @@ fn the_page_on_the_text_form_is_whole() {
     }
     HEADING.iter().for_each(field);
     let layouts = [Which::Survey, Which::Vehicle].map(Which::layout);
-    for version in FIRST_VERSION..=Which::Vehicle.layout().last_version {
-        let weight = &AxleLayout::of(version).other[0];
-        AxleLayout::of(version).other.iter().for_each(field);
-        let Value::Number(limits) = weight.value else { panic!("{weight:?}") };
-        let words = if version == FIRST_VERSION { " of a vehicle" } else { "" };
-        has(&format!("in version {version}{words}"));
-        has(&format!("up to {} {}", limits.greatest, limits.unit));
-    }
+    AXLES.iter().for_each(|axle| axle.other.iter().for_each(field));
+    let [light, heavy] = AXLES.each_ref().map(|AxleLayout { version, weight, .. }| {
+        (format!("version {version}"), format!("up to {} {}", weight.greatest, weight.unit))
+    });
+    has(&format!(
+        "An axle weighs {} in {} of a vehicle, in {} {}.",
+        light.1, light.0, heavy.0, heavy.1
+    ));
     let places = KINDS.iter().map(|kind| page.find(&format!(" {}", kind.name)));
     assert!(places.is_sorted_by(|one, other| one < other && one.is_some()), "{page}");
     for layout in layouts {
