@@ -76,8 +76,8 @@ struct tbr_loads tbr_member_loads(const uint8_t *survey, size_t survey_length,
 /*
  * Judges the bridge of a survey file for every vehicle of a yard: a byte that says how many they
  * are, 1 to 32, then so many vehicle files joined, each of either version and as long as its own
- * version and byte 8 say (9 bytes and 4 an axle, in version 2 6 an axle), or all that is left where
- * that is fewer. Any bytes get an answer.
+ * version and byte 8 say (9 bytes and 4 an axle, or 6 an axle in version 2), or all that is left
+ * where that is fewer. Any bytes get an answer.
  *
  * Fills the list: figure, governing place and 1 where the bridge passes, 0 where it does not, of
  * vehicle 1, then of vehicle 2, and so on; entries beyond are kept. Each is what tbr_judge gives
