@@ -16,7 +16,7 @@ fn weight(axle: &Axle, version: u16) -> Option<Vec<u8>> {
 
 /// The file of this vehicle in this version, or "place of the first such axle" whose weight does
 /// not fit.
-pub fn written(vehicle: &Vehicle, version: u16) -> Result<Vec<u8>, u64> {
+fn written(vehicle: &Vehicle, version: u16) -> Result<Vec<u8>, u64> {
     let mut bytes = b"TBV".to_vec();
     bytes.extend(version.to_le_bytes());
     bytes.push(vehicle.class);
@@ -29,12 +29,16 @@ pub fn written(vehicle: &Vehicle, version: u16) -> Result<Vec<u8>, u64> {
     Ok(bytes)
 }
 
-/// The bytes that are written for a file and the version that is wanted, 1 or 2, into an output of
-/// so many bytes. "The wrong version for the way asked gives 2, at that refusal's usual place";
-/// then 17, "after the file is accepted"; "an output too short gives 14, last".
+/// The bytes that are written for a file and the version that is wanted, 1 or 2 and no other, into
+/// an output of so many bytes. "The wrong version for the way asked gives 2, at that refusal's usual
+/// place"; then 17, "after the file is accepted"; "an output too short gives 14, last".
 pub fn convert(file: &[u8], wanted: u16, room: usize) -> Result<Vec<u8>, Refused> {
     let refused = |number, place| Refused { file: File::Vehicle, number, place };
-    let from = if wanted == HEAVY_AXLES { LIGHT_AXLES } else { HEAVY_AXLES };
+    let from = match wanted {
+        HEAVY_AXLES => LIGHT_AXLES,
+        LIGHT_AXLES => HEAVY_AXLES,
+        _ => panic!("there is no way to version {wanted}"),
+    };
     let vehicle = reader::vehicle_of_version(file, from)?;
     let bytes = written(&vehicle, wanted).map_err(|place| refused(17, place))?;
     if room < bytes.len() {
