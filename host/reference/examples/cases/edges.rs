@@ -2,7 +2,7 @@
 //! term of the dowels, and bridges at the limit, under light and heavy vehicles.
 
 use crate::records::*;
-use reference::generate::{at_the_limit, AxleWords, Random, VehicleWords};
+use reference::generate::{at_the_limit, Random, VehicleWords};
 use reference::layout::*;
 use reference::script::Script;
 
@@ -63,14 +63,11 @@ fn dowels() -> Vec<Words> {
 
 /// Light and heavy, near and far apart, of both classes and with both ends of the track's range.
 fn vehicles() -> Vec<VehicleWords> {
-    let axles = |count, weight, distance| -> Vec<AxleWords> {
-        (0..count).map(|i| [weight, if i == 0 { 0 } else { distance }]).collect()
-    };
     vec![
         case_l(),
-        VehicleWords { class: 0, track: 100, axles: axles(1, 1, 0), ..case_l() },
-        VehicleWords { class: 1, track: 300, axles: axles(16, 60000, 1), ..case_l() },
-        VehicleWords { class: 1, track: 150, axles: axles(16, 60000, 2000), ..case_l() },
+        VehicleWords { class: 0, track: 100, axles: row(1, 1, 0), ..case_l() },
+        VehicleWords { class: 1, track: 300, axles: row(16, 60000, 1), ..case_l() },
+        VehicleWords { class: 1, track: 150, axles: row(16, 60000, 2000), ..case_l() },
     ]
 }
 

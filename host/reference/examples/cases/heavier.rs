@@ -6,7 +6,7 @@ use reference::generate::{
     joined, length, with_version, AxleWords, VehicleWords, HEAVY_EDGES, NO_WEIGHTS,
 };
 use reference::layout::*;
-use reference::script::Script;
+use reference::script::{Script, MOST_BYTES};
 
 const TO_HEAVY: u8 = 2;
 const TO_LIGHT: u8 = 1;
@@ -28,11 +28,6 @@ fn light_l() -> Vec<u8> {
 
 fn heavy_l() -> Vec<u8> {
     vehicle_of(&heavy(case_l()))
-}
-
-/// So many axles of this weight, so far apart.
-fn row(count: u32, weight: u32, apart: u32) -> Vec<AxleWords> {
-    (0..count).map(|i| [weight, if i == 0 { 0 } else { apart }]).collect()
 }
 
 /// A file with these bytes from this one on.
@@ -75,7 +70,7 @@ fn axles(script: &mut Script) {
     for (class, track) in [(2, 190), (0, 99), (1, 301), (0, 190)] {
         script.vehicle(&vehicle_of(&VehicleWords { class, track, ..faulty.clone() }));
     }
-    let with = |count: u32, place: usize, word: usize, value| {
+    let with = |count, place: usize, word: usize, value| {
         let mut axles = row(count, 70_000, 150);
         axles[place][word] = value;
         trailer(&axles)
@@ -215,8 +210,8 @@ fn there_and_back(script: &mut Script) {
         }
     }
     script.title("outputs of the most bytes");
-    script.convert(TO_HEAVY, &light_l(), 160);
-    script.convert(TO_LIGHT, &heavy_l(), 160);
+    script.convert(TO_HEAVY, &light_l(), MOST_BYTES);
+    script.convert(TO_LIGHT, &heavy_l(), MOST_BYTES);
 }
 
 /// 2 where the version is the wrong one for the way asked, before 3 and 1, behind 1 for a short
@@ -301,7 +296,7 @@ fn outputs(script: &mut Script) {
             script.title(&format!("outputs of {count} axles going to {wanted}"));
             let words = lorry(&row(count, 9000, 200));
             let file = vehicle_of(&VehicleWords { version, ..words });
-            let least = length(wanted.into(), count as usize);
+            let least = length(wanted.into(), count);
             for room in [0, 9, least - 1, least, least + 1] {
                 script.convert(wanted, &file, room);
             }

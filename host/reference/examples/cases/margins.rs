@@ -2,7 +2,7 @@
 //! figure is another's, and ties of like and unlike members; the same in a yard.
 
 use crate::records::*;
-use reference::generate::{joined, AxleWords, VehicleWords};
+use reference::generate::{joined, VehicleWords};
 use reference::layout::*;
 use reference::script::Script;
 
@@ -89,8 +89,8 @@ fn far_apart(script: &mut Script) {
     let plates = with(plates, &[(S1, 10000), (S2, 0)]);
     let rotten = with(stringer(20), &[(SPAN, 100)]);
     let beam = with(cross_beam(), &[(FROM_SUPPORT, 10), (S2, 20)]);
-    let heavy: Vec<AxleWords> = (0..16).map(|i| [60000, u32::from(i > 0)]).collect();
-    let vehicles = [axle(1), lorry(&heavy)].map(|words| VehicleWords { class: 1, ..words });
+    let vehicles =
+        [axle(1), lorry(&row(16, 60000, 1))].map(|words| VehicleWords { class: 1, ..words });
     script.title("the greatest and the least margin");
     for members in [&[plates][..], &[plates, rotten, beam]] {
         script.survey(&survey_of(members));

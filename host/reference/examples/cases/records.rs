@@ -88,6 +88,11 @@ pub fn cross_beam() -> Words {
     with(words, &[(DEAD_LOAD, 100), (SECTION, 1), (S1, 24), (S3, 1)])
 }
 
+/// So many axles of this weight, so far apart.
+pub fn row(count: usize, weight: u32, apart: u32) -> Vec<AxleWords> {
+    (0..count).map(|i| [weight, if i == 0 { 0 } else { apart }]).collect()
+}
+
 /// Class 0, track 190, these axles: weight and distance from the axle in front.
 pub fn lorry(axles: &[AxleWords]) -> VehicleWords {
     VehicleWords { version: LIGHT_AXLES, class: 0, track: 190, axles: axles.to_vec() }

@@ -47,7 +47,7 @@ fn fronts(script: &mut Script) {
 
 /// Each axle's weight and distance just inside and outside its range.
 fn axles(script: &mut Script, count: usize) {
-    let sound: Vec<AxleWords> = (0..count).map(|i| [5000, if i == 0 { 0 } else { 200 }]).collect();
+    let sound = row(count, 5000, 200);
     let mut places = vec![0, count / 2, count - 1];
     places.dedup();
     for place in places {

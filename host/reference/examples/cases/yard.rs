@@ -2,7 +2,7 @@
 //! of neighbours in their order, and what the call keeps.
 
 use crate::records::*;
-use reference::generate::{joined, AxleWords, VehicleWords};
+use reference::generate::{joined, VehicleWords};
 use reference::layout::*;
 use reference::script::Script;
 
@@ -27,8 +27,7 @@ fn rising(count: u16, step: u32) -> Vec<Vec<u8>> {
 
 /// 16 axles of this weight, so far apart.
 fn long(weight: u32, apart: u32) -> Vec<u8> {
-    let axles: Vec<AxleWords> = (0..16).map(|i| [weight, if i == 0 { 0 } else { apart }]).collect();
-    vehicle_of(&lorry(&axles))
+    vehicle_of(&lorry(&row(16, weight, apart)))
 }
 
 /// A stringer, whose permitted load rises with the track, and two cross beams alike, for which the
