@@ -38,16 +38,19 @@ pub const FREE_ORDER: u16 = 1;
 /// Version 2: its records stand in one order.
 pub const IN_ORDER: u16 = 2;
 
-/// The vehicle's version 1: a weight in two bytes, up to 60,000.
+/// The vehicle's version 1: a weight in two bytes, up to [`HEAVIEST_LIGHT`].
 pub const LIGHT_AXLES: u16 = 1;
 /// Version 2: "Vehicle version 2 stores a weight in four bytes, 1..200000."
 pub const HEAVY_AXLES: u16 = 2;
+
+/// The greatest weight of an axle in version 1, kgf.
+pub const HEAVIEST_LIGHT: u16 = 60_000;
 
 /// The greatest weight of an axle, kgf, in this version of a vehicle.
 pub fn heaviest(version: u16) -> u32 {
     match version {
         HEAVY_AXLES => 200_000,
-        _ => 60_000,
+        _ => HEAVIEST_LIGHT.into(),
     }
 }
 

@@ -110,10 +110,10 @@ pub fn damage_survey(random: &mut Random, words: &mut Words, damage: SurveyDamag
 /// within it, or bytes in another order.
 pub(super) fn no_weight(random: &mut Random, version: u16) -> u32 {
     if version != HEAVY_AXLES {
-        return outside(random, 1, 60000).into();
+        return outside(random, 1, HEAVIEST_LIGHT).into();
     }
     let least = heaviest(version) + 1;
-    let lower_half = random.large(1, 60000);
+    let lower_half = random.large(1, HEAVIEST_LIGHT.into());
     let exchanged = random.large(1, least - 1);
     match random.below(6) {
         0 | 1 => *random.pick(&NO_WEIGHTS),

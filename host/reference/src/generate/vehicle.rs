@@ -1,7 +1,7 @@
 //! Vehicle files that the document allows, of both versions.
 
 use super::{Random, Spread};
-use crate::layout::{heaviest, HEAVY_AXLES, LIGHT_AXLES};
+use crate::layout::{heaviest, HEAVIEST_LIGHT, HEAVY_AXLES, LIGHT_AXLES};
 
 /// An axle's two numbers: weight and distance from the axle in front.
 pub type AxleWords = [u32; 2];
@@ -33,7 +33,7 @@ fn wide_weight(random: &mut Random, version: u16) -> u32 {
     match version {
         HEAVY_AXLES if random.once_in(2) => *random.pick(&HEAVY_EDGES),
         HEAVY_AXLES => random.large(1, heaviest(version)),
-        _ => random.edgy(1, 60000).into(),
+        _ => random.edgy(1, HEAVIEST_LIGHT).into(),
     }
 }
 
