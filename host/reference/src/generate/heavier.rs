@@ -9,6 +9,7 @@ use super::vehicle::{
 use super::{full_survey, survey, survey_bytes, Damaged, Random, Spread};
 use crate::layout::{axle_bytes, heaviest, HEAVY_AXLES, LIGHT_AXLES};
 use crate::reader::{File, Refused, VEHICLE_HEADER};
+use crate::script::MOST_BYTES;
 
 /// The other of the two versions.
 pub fn other_version(version: u16) -> u16 {
@@ -77,8 +78,8 @@ fn convertible(random: &mut Random, wanted: u16, axles: usize) -> VehicleWords {
 
 /// The output is as long as it has to be, or longer.
 fn enough(random: &mut Random, least: usize) -> usize {
-    let any = least + random.below(161 - least);
-    *random.pick(&[least, least, least + 1, least + 2, 160, any])
+    let any = least + random.below(MOST_BYTES + 1 - least);
+    *random.pick(&[least, least, least + 1, least + 2, MOST_BYTES, any])
 }
 
 /// A conversion that is taken; the versions take turns by the number.
@@ -98,12 +99,12 @@ pub struct DamagedConversion {
 
 /// An output of any length, often too short: what comes before 14 comes whatever the output.
 fn any_room(random: &mut Random) -> usize {
-    let any = random.below(161);
-    *random.pick(&[0, 0, 9, any, 160])
+    let any = random.below(MOST_BYTES + 1);
+    *random.pick(&[0, 0, VEHICLE_HEADER, any, MOST_BYTES])
 }
 
 /// A weight that version 1 has no room for.
-fn too_heavy(random: &mut Random) -> u32 {
+pub(super) fn too_heavy(random: &mut Random) -> u32 {
     let (least, greatest) = (heaviest(LIGHT_AXLES) + 1, heaviest(HEAVY_AXLES));
     let any = random.large(least, greatest);
     *random.pick(&[least, 65_535, 65_536, 65_537, 131_072, greatest, any])

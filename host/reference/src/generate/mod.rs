@@ -41,5 +41,5 @@ pub use vehicle::{
     fitting_vehicle, vehicle, vehicle_bytes, vehicle_of, AxleWords, VehicleWords, HEAVY_EDGES,
     NO_WEIGHTS, VERSIONS,
 };
-pub use worse::{matched_survey, two_vehicles, worse_survey, Matched, Wear};
+pub use worse::{matched_survey, two_heavy_vehicles, two_vehicles, worse_survey, Matched, Wear};
 pub use yard::{damaged_yards, joined, some_yard_damage, yard, yard_bytes, DamagedYard};

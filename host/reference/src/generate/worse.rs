@@ -1,6 +1,7 @@
 //! The second file of a pair as demand 3 has it: deeper rot, more lost area, more dead load,
 //! heavier axles, members and axles added; all else the same.
 
+use super::heavier::too_heavy;
 use super::survey::survey;
 use super::vehicle::{fitting_vehicle, vehicle_of, VehicleWords};
 use super::{Random, Spread};
@@ -114,5 +115,18 @@ pub fn two_vehicles(
         _ => vehicle_of(random, versions[0], spread, axles),
     };
     let second = worse_vehicle(random, &first, versions[1], more);
+    [first, second]
+}
+
+/// The same with both in version 2, where an axle of the first weighs more than version 1 holds.
+pub fn two_heavy_vehicles(
+    random: &mut Random,
+    spread: Spread,
+    axles: usize,
+    more: usize,
+) -> [VehicleWords; 2] {
+    let mut first = vehicle_of(random, HEAVY_AXLES, spread, axles);
+    first.axles[random.below(axles)][0] = too_heavy(random);
+    let second = worse_vehicle(random, &first, HEAVY_AXLES, more);
     [first, second]
 }
