@@ -12,7 +12,7 @@ use std::collections::BTreeMap;
 
 const SCRIPTS: u64 = 6;
 
-/// A round of calls is shorter than this: seven steps on vehicles of at most 16 axles.
+/// A round of calls is shorter than this: nine steps at most, on vehicles of at most 16 axles.
 const LONGEST_ROUND: usize = 1000;
 
 /// The number and place of a refusal, or none: the conversion is taken.
@@ -28,9 +28,17 @@ struct Conversions {
 }
 
 impl Conversions {
+    /// Asks for a conversion that must be answered so.
     fn convert(&mut self, conversion: &Conversion, answer: Answer) {
         let Conversion { wanted, file, room } = conversion;
         self.script.convert(*wanted, file, *room);
+        let said = match answer {
+            None => length(u16::from(*wanted), usize::from(file[8])).to_string(),
+            Some((number, place)) => format!("refused {number} at {place}"),
+        };
+        // The bytes of the output are the last line.
+        let line = self.script.text.lines().rev().nth(1);
+        assert_eq!(line, Some(&*format!("convert {said}")), "to {wanted}");
         *self.seen.entry((*wanted, answer)).or_default() += 1;
     }
 
@@ -128,7 +136,7 @@ fn thousands_of_conversions() {
     }
 }
 
-/// Every length of the output for every number of axles, both ways.
+/// Every length of the output that the program lends, for every number of axles, both ways.
 #[test]
 fn outputs_of_every_length() {
     let seed = seed(0xc0b7_1002);
@@ -139,12 +147,10 @@ fn outputs_of_every_length() {
             let light = vehicle_of(&mut random, 1, Spread::Wide, axles);
             let file = vehicle_bytes(&VehicleWords { version: other_version(wanted), ..light });
             let to = wanted.to_le_bytes()[0];
-            let near = length(wanted, axles);
-            let rooms = (0..=20).chain(near - 7..=near + 7).chain([MOST_BYTES - 1, MOST_BYTES]);
-            rooms.for_each(|room| script.convert(to, &file, room));
+            (0..=MOST_BYTES).for_each(|room| script.convert(to, &file, room));
         }
         assert!(script.bytes.len() < SPACE, "{} bytes", script.bytes.len());
-        assert_eq!(answered(&script, "convert "), 16 * (21 + 15 + 2));
+        assert_eq!(answered(&script, "convert "), 16 * (MOST_BYTES as u64 + 1));
         agree(&script, &format!("TBR_SEED={seed}, to {wanted}"));
     }
 }
