@@ -2,7 +2,7 @@
 //! axles added, no vehicle load falls; and where every closely spaced stringer has the same rot in
 //! both surveys, that of its deck included, no permitted load rises, the figure does not rise, and
 //! what is refused, a member or the bridge, does not pass. The shared members are in the same
-//! places, or matched wherever they stand, in surveys of either version; so may the vehicles be.
+//! places, or matched wherever they stand. Both surveys and both vehicles may be of either version.
 
 mod common;
 
@@ -82,10 +82,13 @@ fn never_better(first: &Bridge, second: &Bridge, partners: &[usize], seed: u64) 
     shared(first, second, partners).for_each(|(one, other)| no_better(one, other, seed));
 }
 
-/// Vehicles and heavier ones, whose pairs of versions take turns by a number.
+/// Vehicles and heavier ones, whose pairs of versions take turns by a number. Where both are of
+/// version 2, every other first vehicle has an axle that version 1 does not hold.
 #[derive(Default)]
 struct TwoVersions {
     met: BTreeMap<[u16; 2], u64>,
+    /// So many first vehicles have such an axle.
+    heavy: u64,
 }
 
 impl TwoVersions {
@@ -98,13 +101,21 @@ impl TwoVersions {
     ) -> [VehicleWords; 2] {
         let versions = [VERSIONS[(turn % 2) as usize], VERSIONS[(turn / 2 % 2) as usize]];
         *self.met.entry(versions).or_default() += 1;
-        two_vehicles(random, versions, spread, axles, more)
+        let vehicles = match (versions, turn / 4 % 2) {
+            ([HEAVY_AXLES, HEAVY_AXLES], 0) => two_heavy_vehicles(random, spread, axles, more),
+            _ => two_vehicles(random, versions, spread, axles, more),
+        };
+        let beyond = |[weight, _]: &AxleWords| *weight > heaviest(LIGHT_AXLES);
+        self.heavy += u64::from(vehicles[0].axles.iter().any(beyond));
+        vehicles
     }
 
-    /// Each pair of versions is met in a quarter of the pairs.
+    /// Each pair of versions is met in a quarter of the pairs, and an eighth of them, but for a few
+    /// at the ends, has a heavy first vehicle.
     fn hold(&self, pairs: u64) {
         let quarter = self.met.values().all(|&times| times == pairs / 4);
         assert!(self.met.len() == 4 && quarter, "{:?}", self.met);
+        assert!(self.heavy >= pairs / 10, "{} first vehicles are heavy", self.heavy);
     }
 }
 
