@@ -1,8 +1,10 @@
-//! The README's section 'From a text form to a verdict': what it shows is what is printed.
+//! The README's section 'From a text form to a verdict': what it shows is what is printed. And where
+//! the README and the documents point, there is something.
 
 mod cli;
 
 use cli::{samples, Folder};
+use std::path::{Path, PathBuf};
 use std::process::Command;
 
 /// The commands of the section's first block, each with the lines that it shows below.
@@ -43,4 +45,35 @@ fn the_section_shows_what_is_printed() {
         let printed = String::from_utf8(output.stdout).unwrap();
         assert_eq!(printed.trim_end(), expected.trim_end(), "{command}");
     }
+}
+
+/// The README and the documents.
+fn documents() -> Vec<PathBuf> {
+    let root = Path::new(env!("CARGO_MANIFEST_DIR")).join("..");
+    let docs = root.join("docs");
+    let mut all = vec![root.join("README.md")];
+    for folder in [docs.join("changes"), docs] {
+        let entries = std::fs::read_dir(folder).unwrap().map(|entry| entry.unwrap().path());
+        all.extend(entries.filter(|path| path.extension().is_some_and(|end| end == "md")));
+    }
+    all
+}
+
+/// Every relative link names a file or a folder, from where its document stands.
+#[test]
+fn links_lead_somewhere() {
+    let mut links = 0;
+    for document in documents() {
+        let text = std::fs::read_to_string(&document).unwrap();
+        let targets = text.split("](").skip(1).filter_map(|rest| rest.split_once(')'));
+        for target in targets.map(|(target, _)| target.split('#').next().unwrap_or("")) {
+            if target.is_empty() || target.contains("://") {
+                continue;
+            }
+            let path = document.parent().unwrap().join(target);
+            assert!(path.exists(), "{}: {target}", document.display());
+            links += 1;
+        }
+    }
+    assert!(links >= 40, "{links} links");
 }
