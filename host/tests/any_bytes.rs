@@ -50,33 +50,49 @@ fn records_all_but_in_order() {
     assert!(SHORT / 4 < refused && refused < SHORT, "{refused} are out of order");
 }
 
-/// Vehicles of both versions by turns, each with a byte changed, cut off or put behind it.
+/// The ways to make a vehicle all but sound.
+const WAYS: u64 = 12;
+
+/// A sound vehicle of this version with bytes cut off or one put behind it, another mark or version,
+/// a count or class that no vehicle has, the other class, or any byte anywhere: by turns.
+fn all_but_sound(random: &mut Random, version: u16, way: u64) -> Vec<u8> {
+    let axles = 1 + random.below(16);
+    let mut vehicle = vehicle_bytes(&vehicle_of(random, version, Spread::Wide, axles));
+    let at = random.below(vehicle.len());
+    match way {
+        0 => vehicle.truncate(at),
+        1 => vehicle.push(0),
+        2 => vehicle[random.below(5)] ^= 0x80,
+        3 => vehicle[8] = *random.pick(&[0, 17, 18, 255]),
+        4 => vehicle[5] |= *random.pick(&[2, 4, 0x80]),
+        5 => vehicle[5] ^= 1,
+        _ => vehicle[at] = random.bits().to_le_bytes()[0],
+    }
+    vehicle
+}
+
+/// Vehicles of both versions and in all ways by turns.
 #[test]
 fn vehicles_all_but_sound() {
     let first = seed(0xda3_0005);
     let mut random = Random::new(first);
     let survey = survey_file(&mut random, Spread::Usual, 1);
-    let mut seen: BTreeMap<(u64, Option<u64>), u64> = BTreeMap::new();
+    let mut seen: BTreeMap<(u16, Option<u64>), u64> = BTreeMap::new();
     for seed in first..first + SHORT {
         let mut random = Random::new(seed);
-        let (version, way) = (seed % 2, seed / 2 % 8);
-        let axles = 1 + random.below(16);
-        let words = vehicle_of(&mut random, VERSIONS[version as usize], Spread::Wide, axles);
-        let mut vehicle = vehicle_bytes(&words);
-        let at = random.below(vehicle.len());
-        match way {
-            0 => vehicle.truncate(at),
-            1 => vehicle.push(0),
-            _ => vehicle[at] = random.bits().to_le_bytes()[0],
-        }
+        let (version, way) = (VERSIONS[(seed % 2) as usize], seed / 2 % WAYS);
+        let vehicle = all_but_sound(&mut random, version, way);
         agree(&survey, &vehicle, seed);
         let number = expected(&survey, &vehicle).err().map(|refused| refused.number);
         *seen.entry((version, number)).or_default() += 1;
     }
-    // A file cut or lengthened is of no version's length.
-    for version in 0..2 {
-        let times = seen.get(&(version, Some(1))).copied().unwrap_or(0);
-        assert!(times >= SHORT / 8, "version {}: {seen:?}", version + 1);
+    // Two ways have number 1, one each has 2, 3 and 7, and with the other class a file is taken.
+    let certain = [(Some(1), 2), (Some(2), 1), (Some(3), 1), (Some(7), 1), (None, 1)];
+    for version in VERSIONS {
+        for (number, ways) in certain {
+            let times = seen.get(&(version, number)).copied().unwrap_or(0);
+            assert!(times >= ways * (SHORT / (2 * WAYS)), "{number:?} of {version}: {seen:?}");
+        }
     }
 }
 

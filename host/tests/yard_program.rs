@@ -83,13 +83,14 @@ fn thousands_of_yards() {
     }
 }
 
-/// One damage in each way at each place of a yard of 32 vehicles.
+/// One damage in each way at each place of a yard of 32 vehicles. Such a yard is a byte, files of
+/// 105 bytes at most and up to 300 bytes left over, so 70 of them fit a script, whatever the seed.
 #[test]
 fn damage_at_every_place() {
     let seed = seed(0x9a4d_1002);
     let mut random = Random::new(seed);
     let survey = survey_bytes(&survey(&mut random, Spread::Usual, 1));
-    for yards in damaged_yards(&mut random).chunks(100) {
+    for yards in damaged_yards(&mut random).chunks(70) {
         let mut script = Script::default();
         script.survey(&survey);
         yards.iter().for_each(|damaged| script.yard(&damaged.yard, 33));
