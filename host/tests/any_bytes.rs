@@ -53,8 +53,8 @@ fn records_all_but_in_order() {
 /// The ways to make a vehicle all but sound.
 const WAYS: u64 = 12;
 
-/// A sound vehicle of this version with bytes cut off or one put behind it, another mark or version,
-/// a count or class that no vehicle has, the other class, or any byte anywhere: by turns.
+/// A sound vehicle of this version with bytes cut off or one put behind it, another mark or
+/// version, a count or class that no vehicle has, the other class, or any byte anywhere: by turns.
 fn all_but_sound(random: &mut Random, version: u16, way: u64) -> Vec<u8> {
     let axles = 1 + random.below(16);
     let mut vehicle = vehicle_bytes(&vehicle_of(random, version, Spread::Wide, axles));

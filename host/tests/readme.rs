@@ -1,5 +1,5 @@
-//! The README's section 'From a text form to a verdict': what it shows is what is printed. And where
-//! the README and the documents point, there is something.
+//! The README's section 'From a text form to a verdict': what it shows is what is printed. And
+//! where the README and the documents point, there is something.
 
 mod cli;
 

@@ -30,8 +30,8 @@ fn written(vehicle: &Vehicle, version: u16) -> Result<Vec<u8>, u64> {
 }
 
 /// The bytes that are written for a file and the version that is wanted, 1 or 2 and no other, into
-/// an output of so many bytes. "The wrong version for the way asked gives 2, at that refusal's usual
-/// place"; then 17, "after the file is accepted"; "an output too short gives 14, last".
+/// an output of so many bytes. "The wrong version for the way asked gives 2, at that refusal's
+/// usual place"; then 17, "after the file is accepted"; "an output too short gives 14, last".
 pub fn convert(file: &[u8], wanted: u16, room: usize) -> Result<Vec<u8>, Refused> {
     let refused = |number, place| Refused { file: File::Vehicle, number, place };
     let from = match wanted {

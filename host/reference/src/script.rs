@@ -232,8 +232,8 @@ impl Script {
         self.print_list(&list);
     }
 
-    /// Asks for a vehicle file in another version, 1 or 2, with a buffer of so many bytes; the whole
-    /// buffer is printed as it is then. The call needs no session, and changes none.
+    /// Asks for a vehicle file in another version, 1 or 2, with a buffer of so many bytes; the
+    /// whole buffer is printed as it is then. The call needs no session, and changes none.
     pub fn convert(&mut self, wanted: u8, file: &[u8], room: usize) {
         let body = [&[wanted], &number(room)[..], file].concat();
         self.step(b'C', body.len(), &body);

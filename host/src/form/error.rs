@@ -163,14 +163,20 @@ fn outside(f: &mut fmt::Formatter, found: &str, limits: &Limits) -> fmt::Result 
     }
 }
 
+/// A number that is above, or not below, that of another field.
+fn beside(f: &mut fmt::Formatter, how: &str, other: &str, numbers: [String; 2]) -> fmt::Result {
+    let [found, limit] = numbers;
+    write!(f, "{found} is {how} the {other} of {limit}")
+}
+
+const NO_HEADING: &str = "the first line must be 'survey', 'survey, version N', 'vehicle, ..' or \
+                          'vehicle, version N, ..'";
+
 impl fmt::Display for Problem {
     fn fmt(&self, f: &mut fmt::Formatter) -> fmt::Result {
         match self {
             Problem::NotText => write!(f, "this is not text (UTF-8)"),
-            Problem::NoHeading => {
-                write!(f, "the first line must be 'survey', 'survey, version N', ")?;
-                write!(f, "'vehicle, ..' or 'vehicle, version N, ..'")
-            }
+            Problem::NoHeading => f.write_str(NO_HEADING),
             Problem::NoRecord => write!(f, "none follows the heading"),
             Problem::TooMany { most } => write!(f, "a file holds at most {most}"),
             Problem::NotOneOf { found, allowed } => {
@@ -189,12 +195,10 @@ impl fmt::Display for Problem {
                 write!(f, "{found} is not one of: {}", allowed.join(", "))
             }
             Problem::NotBelow { found, other, limit, unit } => {
-                let (found, limit) = (with_unit(found, unit), with_unit(limit, unit));
-                write!(f, "{found} is not below the {other} of {limit}")
+                beside(f, "not below", other, [found, limit].map(|number| with_unit(number, unit)))
             }
             Problem::Above { found, other, limit, unit } => {
-                let (found, limit) = (with_unit(found, unit), with_unit(limit, unit));
-                write!(f, "{found} is above the {other} of {limit}")
+                beside(f, "above", other, [found, limit].map(|number| with_unit(number, unit)))
             }
             Problem::OutOfOrder { found, greater, at } => {
                 write!(f, "{found} is below the {greater} of {at}; ")?;
