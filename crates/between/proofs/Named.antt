@@ -1,7 +1,8 @@
 -- A refusal names its fault, and a fault its refusal: the tests in their order come to the plain words.
 -- Assumes nothing.
-use Prim.Native.Nat.{ℕ, _+_, _-_, _*_, _<_}
+use Prim.Native.Nat.{ℕ, _+_, _*_}
 use mathlib.Core.Path.{_≡_, sym, ap, _∙_}
+use mathlib.Core.Bool.{false≢true}
 use mathlib.Core.List.{List}
 use mathlib.Core.Logic.{_⊎_, inl, inr, ⊎-elim}
 use native.Mathlib.Decide.{ℕ-discrete, decLe}
@@ -13,17 +14,14 @@ use Rattle.files.specs.Allowed.{AllowedSurveyFile}
 use Rattle.files.specs.Refused.{SurveyRefusal}
 use Rattle.files.specs.SurveyFile.{countOf, recordAt, readSurvey}
 use Rattle.files.specs.Reading.{firstRefusal}
-use Rattle.files.specs.Words.{each}
 use Rattle.files.specs.declared.Reading.the-variants.{Taken, Refused}
 use Rattle.files.specs.declared.Refusal.{Refusal}
-use Rattle.files.proofs.Each.{length-each, getD-each}
-use Rattle.files.proofs.Faults.{refusal, reading-case, refused-at}
+use Rattle.files.proofs.Faults.{refusal, reading-case, failing-named}
 use Rattle.files.proofs.Surveys.{taken-allowed, allowed-taken, refused-named, named-refused}
-use Rattle.files.proofs.Tests.{passed}
-use Rattle.between.specs.Order.{orderFault, orderOf}
+use Rattle.between.specs.Order.{orderOf}
 use Rattle.between.specs.Between.{betweenTests, betweenList}
 use Rattle.between.specs.Fault.{BothAllowed, MayBeJudged, BetweenFault, no-vehicle, first-refused, second-refused, other-count, not-ordered, short-list}
-use Rattle.between.proofs.Orders.{count-differs, count-alike, test-ordered, no-fault, taken-in-order, in-order-taken, first-unordered}
+use Rattle.between.proofs.Orders.{count-differs, count-alike, test-ordered, ordered-test, orderedAt, taken-in-order, in-order-taken, first-unordered}
 use Rattle.between.proofs.Lists.{bounds-length}
 use Rattle.between.proofs.Pairs.{Passed, passed-all, list-kept}
 
@@ -71,17 +69,8 @@ module _ (v : Vehicle) (first second : List ℕ) (room : ℕ) where
   -- the first record that is not in order
   unordered : BothAllowed v first second → countOf first ≡ countOf second → (r : Refusal) → orderOf first second ≡ Refused r → Outcome
   unordered b same r e =
-      let fault : ℕ → ℕ = λ k. orderFault (recordAt first k) (recordAt second k) in
-      let at = refused-at 1 (each fault (countOf first)) r (sym (count-alike _ _ _ _ same) ∙ e) in
-      let i : ℕ = r .place - 1 in
-      let inside : i < countOf first = omega (arith, at .below, at .from, length-each fault (countOf first)) in
-      inr (
-        15,
-        i + 1,
-        not-ordered b same i inside
-            (λ k l. test-ordered _ _ (passed 15 _ (omega arith) (sym (getD-each fault (countOf first) k 0 (omega arith)) ∙ at .first k l)))
-            (λ o. at .fault (sym (sym (no-fault first second i o) ∙ sym (getD-each fault (countOf first) i 0 inside) ∙ at .number))),
-      )
+      let (i, inside, before, fails) = failing-named 15 (omega arith) (orderedAt first second) (countOf first) r (sym (count-alike _ _ _ _ same) ∙ e) in
+      inr (15, i + 1, not-ordered b same i inside (λ k l. test-ordered _ _ (before k l)) (λ o. false≢true (sym fails ∙ ordered-test _ _ o)))
 
   -- every call passes all tests or has a fault
   pub passed-or-fault : Outcome

@@ -1,6 +1,6 @@
 -- Records and surveys in order: the tests come to the plain words.
 -- Assumes nothing.
-use Prim.Native.Nat.{ℕ, _+_, _-_, _≤_, _<_}
+use Prim.Native.Nat.{ℕ, _+_, _≤_, _<_}
 use mathlib.Core.Path.{_≡_, refl, sym, _∙_}
 use mathlib.Core.Bool.{Bool, true, false, not, _&&_, _||_, and-true, and-false, or-true, or-false, false≢true}
 use mathlib.Core.List.{List}
@@ -19,9 +19,8 @@ use Rattle.files.specs.Reading.{firstFault}
 use Rattle.files.specs.SurveyFile.{countOf, recordAt}
 use Rattle.files.specs.Words.{each}
 use Rattle.files.specs.declared.Reading.the-variants.{Taken}
-use Rattle.files.proofs.Faults.{refusal, refused-not, taken-none, none-taken, fault-at}
-use Rattle.files.proofs.Each.{getD-each}
-use Rattle.files.proofs.Tests.{both, all-of, passed, refutes}
+use Rattle.files.proofs.Faults.{refusal, refused-not, all-hold, hold-all, first-failing}
+use Rattle.files.proofs.Tests.{both, all-of, refutes}
 use Rattle.between.specs.Order.{mustStay, mayGrow, fieldOrdered, ordered, orderFault, Ordered, orderAnswer, orderOf, OrderedBefore, InOrder}
 
 -- the dead load is no rot and no lost area of any section
@@ -160,23 +159,17 @@ module _ (m m' : Member) where
 
 -- two surveys, by the tests and in plain words
 module _ (first second : List ℕ) where
-  at-fault : (i : ℕ) → ¬ (Ordered (recordAt first i) (recordAt second i)) → orderFault (recordAt first i) (recordAt second i) ≡ 15
-  at-fault i n = rw (refutes (ordered (recordAt first i) (recordAt second i)) (test-ordered _ _) n)
-
-  pub no-fault : (i : ℕ) → Ordered (recordAt first i) (recordAt second i) → orderFault (recordAt first i) (recordAt second i) ≡ 0
-  no-fault i o = rw (ordered-test _ _ o)
+  -- the records of index i are in order, by the test
+  abbrev pub orderedAt : (i : ℕ) → Bool
+  orderedAt i = ordered (recordAt first i) (recordAt second i)
 
   pub taken-in-order : orderOf first second ≡ Taken → InOrder first second
   taken-in-order e =
       let same = order-count first second e in
-      let none = taken-none 1 (each (λ i. orderFault (recordAt first i) (recordAt second i)) (countOf first)) (sym (count-alike _ _ _ _ same) ∙ e) in
-      record {
-        count = same;
-        records = λ i l. test-ordered _ _ (passed 15 _ (omega arith) (sym (getD-each (λ i. orderFault (recordAt first i) (recordAt second i)) (countOf first) i 0 l) ∙ none i));
-      }
+      record { count = same; records = λ i l. test-ordered _ _ (all-hold 15 (omega arith) orderedAt (countOf first) (sym (count-alike _ _ _ _ same) ∙ e) i l) }
 
   pub in-order-taken : InOrder first second → orderOf first second ≡ Taken
-  in-order-taken o = count-alike _ _ _ _ (o .count) ∙ none-taken 1 _ (countOf first) (λ i l. no-fault i (o .records i l))
+  in-order-taken o = count-alike _ _ _ _ (o .count) ∙ hold-all 15 (omega arith) orderedAt (countOf first) (λ i l. ordered-test _ _ (o .records i l))
 
   -- the first record that is not in order
   pub first-unordered : countOf first ≡ countOf second → (i : ℕ) → i < countOf first → OrderedBefore first second i →
@@ -184,4 +177,4 @@ module _ (first second : List ℕ) where
       orderOf first second ≡ refusal 15 (i + 1)
   first-unordered same i l before n =
       count-alike _ _ _ _ same ∙
-      fault-at (λ k. orderFault (recordAt first k) (recordAt second k)) 1 i (countOf first) 15 l (none-taken 1 _ i (λ k b. no-fault k (before k b))) (at-fault i n) (omega arith)
+      first-failing 15 (omega arith) orderedAt i (countOf first) l (λ k b. ordered-test _ _ (before k b)) (refutes (orderedAt i) (test-ordered _ _) n)
