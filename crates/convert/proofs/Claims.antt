@@ -1,52 +1,37 @@
 -- What is claimed of the converter, proved.
 -- Assumes nothing.
-use Prim.Native.Nat.{ℕ, suc, _≤_, _<_}
-use mathlib.Core.Path.{_≡_, refl, sym, ap, subst, _∙_}
+use Prim.Native.Nat.{ℕ, _≤_, _<_}
+use mathlib.Core.Path.{_≡_, refl, subst, _∙_}
 use mathlib.Core.Bool.{true}
-use mathlib.Core.List.{List, [], _∷_, _++_}
+use mathlib.Core.List.{List, [], _∷_}
 use mathlib.Core.Logic.{inl, inr, ⊎-elim}
 use native.Mathlib.Omega.{arith}
-use lib.ListN.{length, take, drop, length-append, length-drop}
-use lib.Seq.{take-at, drop-at}
+use lib.ListN.{length, take}
 use borrow.Author.Tests.{leb-true, le-leb}
 use Rattle.section.specs.Units.{weight}
 use Rattle.member.specs.Format.{In, weightRange}
-use Rattle.files.specs.Answer.{Answer, Values, WithMargin, RefusedAt}
+use Rattle.files.specs.Answer.{Values, RefusedAt}
 use Rattle.files.specs.Header.{versionOf}
 use Rattle.files.specs.Reading.{firstRefusal}
 use Rattle.files.specs.Words.{Bytes}
-use Rattle.files.specs.declared.Reading.{Reading}
-use Rattle.files.specs.declared.Reading.the-variants.{Taken, Refused}
+use Rattle.files.specs.Writing.{onto}
+use Rattle.files.specs.declared.Reading.the-variants.{Taken}
 use Rattle.vehicles.specs.VehicleFile.{VEHICLE-VERSIONS, axlesOf, weightAt, weightsIn, vehicleOf, readVehicle}
 use Rattle.vehicles.specs.Allowed.{AllowedVehicleOf, AllowedVehicleFile}
 use Rattle.vehicles.specs.Alike.{SameNumbers}
 use Rattle.vehicles.proofs.Alike.{same-vehicle, read-alike}
 use Rattle.vehicles.proofs.Vehicles.{weight-is, taken-allowed, allowed-taken}
-use Rattle.convert.specs.Convert.{wantedVersion, givenVersion, only, weightFits, answerBy, bytesBy, heavyAnswer, output, convertTests, converted, convertedBytes, convertedOut}
+use Rattle.convert.specs.Convert.{wantedVersion, givenVersion, only, weightFits, heavyAnswer, output, convertTests, converted, convertedBytes, convertedOut}
 use Rattle.convert.specs.Fault.{Accepted, ConvertFault}
 use Rattle.convert.specs.Claims.{back, Writes, written, ConvertAnswered, ConvertedFile, ConvertTaken}
 use Rattle.convert.specs.declared.Wanted.{Wanted}
 use Rattle.convert.specs.declared.Wanted.the-variants.{Version1, Version2}
-use Rattle.convert.proofs.Numbers.{FitsIn}
+use Rattle.files.proofs.Numbers.{FitsIn}
+use Rattle.files.proofs.Writing.{onto-first, onto-beyond, onto-length, written-tests, refused-tests}
 use Rattle.convert.proofs.Files.{length-vehicle}
 use Rattle.convert.proofs.RoundTrip.{file-again, numbers-kept, output-allowed}
 use Rattle.convert.proofs.Converting.{Passed, all-passed, passed-all}
 use Rattle.convert.proofs.Named.{fits-all, all-fit, fault-refused, passed-good, good-passed, passed-or-fault, already}
-
--- an answer with bytes is no refusal
-abbrev bytesIn : Answer → ℕ
-bytesIn (Values (n ∷ ns)) = suc n
-bytesIn (Values []) = 0
-bytesIn (WithMargin values margin) = 0
-bytesIn (RefusedAt number place) = 0
-
-written-tests : (a : Reading) (m n : ℕ) → answerBy a m ≡ Values (n ∷ []) → (a ≡ Taken) × (n ≡ m)
-written-tests Taken m n e = (refl, omega (arith, ap bytesIn e))
-written-tests (Refused r) m n e = absurd (omega (arith, ap bytesIn e))
-
-refused-tests : (a : Reading) (m n p : ℕ) (bytes : List ℕ) → answerBy a m ≡ RefusedAt n p → bytesBy a bytes ≡ []
-refused-tests Taken m n p bytes e = absurd (omega (arith, ap bytesIn e))
-refused-tests (Refused r) m n p bytes e = refl
 
 -- a file of one of the two versions is read among both
 either-version : (version : ℕ) (bytes : List ℕ) → In VEHICLE-VERSIONS version → AllowedVehicleOf (only version) bytes → AllowedVehicleFile bytes
@@ -134,7 +119,7 @@ module _ (wanted : Wanted) (file : List ℕ) (accepted : Accepted wanted file) (
 
     back-bytes : take (length file) (convertedOut (back wanted) (output wanted file) out') ≡ file
     unfolding convertedBytes
-    back-bytes = rw (passed-back, back-output small) (take-at file (drop (length file) out') (length file) refl)
+    back-bytes = rw (passed-back, back-output small) (onto-first file out' (length file) refl)
 
 module _ (wanted : Wanted) (file out : List ℕ) where
   refused-by : (n p : ℕ) → ConvertFault wanted file (length out) n p → converted wanted file (length out) ≡ RefusedAt n p
@@ -162,12 +147,12 @@ module _ (wanted : Wanted) (file out : List ℕ) where
         let (none, size) = written-tests (firstRefusal (convertTests wanted file (length out))) (length (output wanted file)) n w in
         (all-passed wanted file (length out) none, size)
 
-    out-is : convertedOut wanted file out ≡ output wanted file ++ drop n out
+    out-is : convertedOut wanted file out ≡ onto (output wanted file) out
     unfolding convertedBytes
-    out-is = rw (passed-all wanted file (length out) (passed-n .0), ← (passed-n .1))
+    out-is = rw (passed-all wanted file (length out) (passed-n .0))
 
     written-is : written wanted file out n ≡ output wanted file
-    written-is = rw out-is (take-at (output wanted file) (drop n out) n (sym (passed-n .1)))
+    written-is = rw out-is (onto-first (output wanted file) out n (passed-n .1))
 
     pub converted-file : ConvertedFile wanted file out n
     converted-file =
@@ -176,8 +161,8 @@ module _ (wanted : Wanted) (file out : List ℕ) where
         let accepted = taken-allowed _ file (p .taken) in
         record {
           count = size ∙ length-vehicle (wantedVersion wanted) (vehicleOf file);
-          beyond = rw out-is (drop-at (output wanted file) (drop n out) n (sym size));
-          length-kept = rw out-is (length-append (output wanted file) (drop n out) ∙ omega (arith, size, p .room-enough, length-drop n out));
+          beyond = rw out-is (onto-beyond (output wanted file) out n size);
+          length-kept = rw out-is (onto-length (output wanted file) out (p .room-enough));
           allowed = rw written-is (allowed wanted file accepted (p .light));
           kept = rw written-is (kept wanted file accepted (p .light));
           alike = rw written-is (alike wanted file accepted (p .light));

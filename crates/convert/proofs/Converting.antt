@@ -15,17 +15,18 @@ use Rattle.files.specs.Reading.{orElse, test, firstRefusal}
 use Rattle.files.specs.declared.Reading.{Reading}
 use Rattle.files.specs.declared.Reading.the-variants.{Taken, Refused}
 use Rattle.files.specs.declared.Refusal.{Refusal}
+use Rattle.files.specs.Writing.{writtenAnswer}
+use Rattle.files.specs.declared.output.Written.{Written}
+use Rattle.files.specs.declared.output.Written.the-variants.{Bytes}
+use Rattle.files.specs.declared.output.Written.the-variants.{Refused as NotWritten}
 use Rattle.files.proofs.Faults.{reading-case, both-taken, or-none, test-holds}
 use Rattle.vehicles.specs.VehicleFile.{VEHICLE-HEADER, LONGEST-AXLE, axleSize, vehicleOf, readVehicleOf}
 use Rattle.vehicles.specs.declared.VehicleRead.{VehicleRead}
 use Rattle.vehicles.proofs.Axles.{longest-axle}
 use Rattle.vehicles.proofs.Vehicles.{taken-vehicle, taken-vehicle-allowed, refused-blank}
 use Rattle.convert.specs.VehicleBytes.{LONGEST-FILE}
-use Rattle.convert.specs.Convert.{convertAnswer, wantedVersion, givenVersion, only, heavyAnswer, output, convertTests, converted, convertedBytes, convertedOut}
+use Rattle.convert.specs.Convert.{wantedVersion, givenVersion, only, heavyAnswer, output, convertTests, converted, convertedBytes, convertedOut}
 use Rattle.convert.specs.declared.Wanted.{Wanted}
-use Rattle.convert.specs.declared.Converted.{Converted}
-use Rattle.convert.specs.declared.Converted.the-variants.{Written}
-use Rattle.convert.specs.declared.Converted.the-variants.{Refused as NotConverted}
 use Rattle.convert.proofs.Files.{length-vehicle}
 
 module _ (wanted : Wanted) (file : List ℕ) where
@@ -69,7 +70,7 @@ module _ (wanted : Wanted) (file : List ℕ) where
 
     -- what is worked out where none fails, and where one does
     pub work-written : Passed room → (bytes : List ℕ) {n : ℕ} → n ≡ length (output wanted file) → take (length (output wanted file)) bytes ≡ output wanted file →
-        (convertAnswer (Written n) ≡ converted wanted file room) × ((take n bytes ≡ convertedBytes wanted file room) × ((n ≡ length (convertedBytes wanted file room)) × ((n ≤ LONGEST-FILE) × (n ≤ room))))
+        (writtenAnswer (Bytes n) ≡ converted wanted file room) × ((take n bytes ≡ convertedBytes wanted file room) × ((n ≡ length (convertedBytes wanted file room)) × ((n ≤ LONGEST-FILE) × (n ≤ room))))
     unfolding converted convertedBytes
     work-written p bytes e b =
         let axles : vehicleOf file .axles ≤ MOST-AXLES = rw (← ap (λ (v : Vehicle). v .axles) (taken-vehicle _ file (p .taken))) few-axles in
@@ -77,8 +78,8 @@ module _ (wanted : Wanted) (file : List ℕ) where
         let size = length-vehicle (wantedVersion wanted) (vehicleOf file) in
         (rw (passed-all p, e), (rw (passed-all p, e) b, (rw (passed-all p) e, (omega (arith, e, size, cap), omega (arith, e, p .room-enough)))))
 
-    pub work-refused : (r : Refusal) → firstRefusal (convertTests wanted file room) ≡ Refused r → {answer : Converted} (bytes : List ℕ) {n : ℕ} → answer ≡ NotConverted r → n ≡ 0 →
-        (convertAnswer answer ≡ converted wanted file room) × ((take n bytes ≡ convertedBytes wanted file room) × ((n ≡ length (convertedBytes wanted file room)) × ((n ≤ LONGEST-FILE) × (n ≤ room))))
+    pub work-refused : (r : Refusal) → firstRefusal (convertTests wanted file room) ≡ Refused r → {answer : Written} (bytes : List ℕ) {n : ℕ} → answer ≡ NotWritten r → n ≡ 0 →
+        (writtenAnswer answer ≡ converted wanted file room) × ((take n bytes ≡ convertedBytes wanted file room) × ((n ≡ length (convertedBytes wanted file room)) × ((n ≤ LONGEST-FILE) × (n ≤ room))))
     unfolding converted convertedBytes
     work-refused r e bytes a z = (rw (a, e), (rw (z, e), (rw (z, e), (omega arith, omega arith))))
 

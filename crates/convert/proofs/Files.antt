@@ -1,6 +1,6 @@
 -- The bytes of a vehicle's file: how many they are, and that they stand where the loop puts them.
 -- Assumes nothing.
-use Prim.Native.Nat.{ℕ, zero, suc, _+_, _*_, _≤_}
+use Prim.Native.Nat.{ℕ, suc, _+_, _*_, _≤_}
 use mathlib.Core.Path.{_≡_, refl, ap, _∙_}
 use mathlib.Core.List.{List, [], _∷_, _++_, append-assoc}
 use native.Mathlib.Numerals.{add-one}
@@ -10,8 +10,10 @@ use lib.Seq.{paste, take-paste, take-all}
 use Rattle.section.specs.Units.{weight, distance}
 use Rattle.member.specs.declared.record.Vehicle.{Vehicle}
 use Rattle.vehicles.specs.VehicleFile.{VEHICLE-HEADER, weightBytes, axleSize}
-use Rattle.convert.specs.VehicleBytes.{bytesOf, headBytes, axlesBytes, vehicleBytes}
-use Rattle.convert.proofs.Numbers.{length-bytes}
+use Rattle.convert.specs.VehicleBytes.{headBytes, axleBytes, axlesBytes, vehicleBytes}
+use Rattle.files.specs.Words.{bytesOf}
+use Rattle.files.proofs.Numbers.{length-bytes}
+use Rattle.files.proofs.Writing.{length-row}
 
 -- what is put behind the first bytes of a row
 pub pasted : (row bytes : List ℕ) (at n : ℕ) (first : List ℕ) → take at row ≡ first → length first ≡ at → length bytes ≡ n →
@@ -37,11 +39,7 @@ module _ (version : ℕ) (v : Vehicle) where
       pasted (paste classed 6 track 2) (bytesOf 1 (v .axles)) 8 1 (mark ++ ver ++ class ++ track) with-track refl refl
 
   pub length-axles : (n : ℕ) → length (axlesBytes version v n) ≡ axleSize version * n
-  length-axles zero = omega arith
-  length-axles (suc n) =
-      let weights = length-bytes (weightBytes version) (weight (v .weights) n) in
-      let step : axleSize version * suc n ≡ axleSize version * n + weightBytes version + 2 = omega arith in
-      simp length-append (omega (arith, length-axles n, weights, step))
+  length-axles = length-row (axleBytes version v) (axleSize version) (λ i. simp length-append (omega (arith, length-bytes (weightBytes version) (weight (v .weights) i))))
 
   -- with the header
   pub length-with : (n : ℕ) → length (headBytes version v ++ axlesBytes version v n) ≡ VEHICLE-HEADER + axleSize version * n

@@ -1,9 +1,8 @@
 -- The numbers of a vehicle's file are the vehicle's.
 -- Assumes nothing.
-use Prim.Native.Nat.{ℕ, zero, suc, _+_, _*_, _<_}
+use Prim.Native.Nat.{ℕ, _+_, _*_, _<_}
 use mathlib.Core.Path.{_≡_, sym, ap, _∙_}
-use mathlib.Core.List.{List, [], _++_, append-assoc}
-use native.Mathlib.Decide.{decLt}
+use mathlib.Core.List.{List, _++_, append-assoc}
 use native.Mathlib.Omega.{arith}
 use lib.ListN.{length, length-append}
 use Rattle.section.specs.Units.{weight, distance}
@@ -12,8 +11,10 @@ use Rattle.files.specs.Header.{versionOf}
 use Rattle.files.specs.Words.{numberAt}
 use Rattle.vehicles.specs.VehicleFile.{VEHICLE-HEADER, weightBytes, axleSize, classOf, trackOf, axlesOf, weightAt, distanceAt}
 use Rattle.vehicles.proofs.Axles.{two-bytes-at}
-use Rattle.convert.specs.VehicleBytes.{bytesOf, headBytes, axleBytes, axlesBytes, vehicleBytes}
-use Rattle.convert.proofs.Numbers.{FitsIn, length-bytes, number-written}
+use Rattle.convert.specs.VehicleBytes.{headBytes, axleBytes, axlesBytes, vehicleBytes}
+use Rattle.files.specs.Words.{bytesOf}
+use Rattle.files.proofs.Numbers.{FitsIn, length-bytes, number-written}
+use Rattle.files.proofs.Writing.{row-split}
 use Rattle.convert.proofs.Files.{length-with}
 
 -- brackets
@@ -22,17 +23,6 @@ in-front head a b c d =
     sym (append-assoc head (a ++ b ++ c) d) ∙ ap (λ (l : List ℕ). l ++ d) (sym (append-assoc head (a ++ b) c) ∙ ap (λ (l : List ℕ). l ++ c) (sym (append-assoc head a b)))
 
 module _ (version : ℕ) (v : Vehicle) where
-  -- the axles up to n have the axle of index i behind the axles up to i
-  axles-split : (i n : ℕ) → i < n → (rest : List ℕ) × (axlesBytes version v n ≡ axlesBytes version v i ++ axleBytes version v i ++ rest)
-  axles-split i zero h = absurd (omega arith)
-  axles-split i (suc n) h =
-      elim (decLt i n) [
-        | yes l ↦
-            let (rest, e) = axles-split i n l in
-            (rest ++ axleBytes version v n, ap (λ (bytes : List ℕ). bytes ++ axleBytes version v n) e ∙ append-assoc (axlesBytes version v i ++ axleBytes version v i) rest (axleBytes version v n))
-        | no g ↦ let same : n ≡ i = omega arith in ([], rw (same, mathlib.Core.List.append-nil))
-      ]
-
   -- the header's numbers
   module _ (small : FitsIn 2 version) where
     pub version-written : versionOf (vehicleBytes version v) ≡ version
@@ -43,7 +33,7 @@ module _ (version : ℕ) (v : Vehicle) where
     parts : (i : ℕ) → i < v .axles → (rest : List ℕ) × (vehicleBytes version v ≡ headBytes version v ++ axlesBytes version v i ++ bytesOf (weightBytes version) (weight (v .weights) i) ++ bytesOf 2 (distance (v .distances) i) ++ rest)
     unfolding vehicleBytes
     parts i h =
-        let (rest, e) = axles-split i (v .axles) h in
+        let (rest, e) = row-split (axleBytes version v) i (v .axles) h in
         let head = headBytes version v in
         let axles = axlesBytes version v i in
         let weights = bytesOf (weightBytes version) (weight (v .weights) i) in

@@ -1,4 +1,3 @@
-pub mod Numbers
 pub mod Files
 pub mod Converting
 pub mod Kept

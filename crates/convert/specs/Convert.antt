@@ -1,29 +1,21 @@
 -- The converter. Document 02, request 9/13: "A converter goes from 1 to 2 with every number kept, and back where each weight fits".
 use Prim.Native.Nat.{ℕ}
 use mathlib.Core.Bool.{Bool, true}
-use mathlib.Core.List.{List, [], _∷_, _++_}
+use mathlib.Core.List.{List, [], _∷_}
 use lib.Dec.{leb}
-use lib.ListN.{length, drop}
+use lib.ListN.{length}
 use Rattle.section.specs.Units.{weight}
 use Rattle.member.specs.Format.{Range, _‥_}
 use Rattle.member.specs.declared.record.Vehicle.{Vehicle}
-use Rattle.files.specs.Answer.{Answer, Values, refusedBy}
+use Rattle.files.specs.Answer.{Answer}
+use Rattle.files.specs.Writing.{answerBy, bytesBy, onto}
 use Rattle.files.specs.Words.{each}
 use Rattle.files.specs.Reading.{_unless_, firstFault, test, firstRefusal}
 use Rattle.files.specs.declared.Reading.{Reading}
-use Rattle.files.specs.declared.Reading.the-variants.{Taken, Refused}
 use Rattle.vehicles.specs.VehicleFile.{vehicleOf, readVehicleOf}
 use Rattle.convert.specs.VehicleBytes.{vehicleBytes}
 use Rattle.convert.specs.declared.Wanted.{Wanted}
 use Rattle.convert.specs.declared.Wanted.the-variants.{Version1, Version2}
-use Rattle.convert.specs.declared.Converted.{Converted}
-use Rattle.convert.specs.declared.Converted.the-variants.{Written}
-use Rattle.convert.specs.declared.Converted.the-variants.{Refused as NotConverted}
-
--- the answer's numbers: "The number of bytes written comes back", or a refusal's number and place
-abbrev pub convertAnswer : Converted → Answer
-convertAnswer (Written bytes) = Values (bytes ∷ [])
-convertAnswer (NotConverted r) = refusedBy r
 
 -- "from 1 to 2 .., and back": the version that is wanted, and the one that the file has
 abbrev pub wantedVersion : Wanted → ℕ
@@ -50,15 +42,6 @@ heavyFault wanted v i = 17 unless weightFits wanted (weight (v .weights) i)
 unfoldable pub heavyAnswer : Wanted → Vehicle → Reading
 heavyAnswer wanted v = firstFault 1 (each (heavyFault wanted v) (v .axles))
 
--- by the tests: how many bytes, or the refusal; and the bytes, or none
-abbrev pub answerBy : Reading → (bytes : ℕ) → Answer
-answerBy Taken bytes = Values (bytes ∷ [])
-answerBy (Refused r) bytes = refusedBy r
-
-abbrev pub bytesBy : Reading → (bytes : List ℕ) → List ℕ
-bytesBy Taken bytes = bytes
-bytesBy (Refused r) bytes = []
-
 module _ (wanted : Wanted) (file : List ℕ) where
   -- "with every number kept": the file of the same vehicle
   abbrev pub output : List ℕ
@@ -82,4 +65,4 @@ module _ (wanted : Wanted) (file : List ℕ) where
 
   -- what the output then holds: "bytes beyond are kept"
   abbrev pub convertedOut : (out : List ℕ) → List ℕ
-  convertedOut out = let bytes = convertedBytes (length out) in bytes ++ drop (length bytes) out
+  convertedOut out = onto (convertedBytes (length out)) out

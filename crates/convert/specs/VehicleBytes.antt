@@ -1,16 +1,12 @@
 -- The bytes of a vehicle's file, in either version. Document 01, 'Files': "Little-endian. .. Vehicle: TBV, u16 version 1, u8 class, u16 track ..,
 -- u8 axles .., then per axle u16 weight .. and u16 distance"; document 02, request 9/13: "Vehicle version 2 stores a weight in four bytes".
-use Prim.Native.Nat.{ℕ, zero, suc, _+_, _*_, _/_, _%_}
+use Prim.Native.Nat.{ℕ, _+_, _*_}
 use mathlib.Core.List.{List, [], _∷_, _++_}
 use Rattle.section.specs.Units.{weight, distance}
 use Rattle.member.specs.Fields.{MOST-AXLES}
 use Rattle.member.specs.declared.record.Vehicle.{Vehicle}
+use Rattle.files.specs.Words.{bytesOf, inRow}
 use Rattle.vehicles.specs.VehicleFile.{VEHICLE-HEADER, LONGEST-AXLE, weightBytes}
-
--- a number in so many bytes, its low byte first
-abbrev pub bytesOf : (width number : ℕ) → List ℕ
-bytesOf zero number = []
-bytesOf (suc width) number = number % 256 ∷ bytesOf width (number / 256)
 
 module _ (version : ℕ) (v : Vehicle) where
   -- "TBV, u16 version .., u8 class, u16 track .., u8 axles"
@@ -23,8 +19,7 @@ module _ (version : ℕ) (v : Vehicle) where
 
   -- the first n axles
   abbrev pub axlesBytes : (n : ℕ) → List ℕ
-  axlesBytes zero = []
-  axlesBytes (suc n) = axlesBytes n ++ axleBytes n
+  axlesBytes = inRow axleBytes
 
   unfoldable pub vehicleBytes : List ℕ
   vehicleBytes = headBytes ++ axlesBytes (v .axles)

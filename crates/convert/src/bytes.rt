@@ -1,4 +1,5 @@
 // The bytes of a vehicle's file, in either version.
+use files::output::put_number;
 use member::record::MOST_AXLES;
 use member::record::Vehicle;
 use vehicles::axle::HEADER;
@@ -11,7 +12,8 @@ ghost use lib.ListN.{length, take};
 ghost use lib.Seq.{paste};
 ghost use Rattle.member.specs.Fields.{MOST-AXLES};
 ghost use Rattle.vehicles.specs.VehicleFile.{VEHICLE-HEADER};
-ghost use Rattle.convert.specs.VehicleBytes.{LONGEST-FILE, bytesOf, headBytes, vehicleBytes};
+ghost use Rattle.files.specs.Words.{bytesOf};
+ghost use Rattle.convert.specs.VehicleBytes.{LONGEST-FILE, headBytes, vehicleBytes};
 
 // The longest file: sixteen axles of version 2.
 pub const LONGEST_FILE: usize = HEADER + LONGEST_AXLE * MOST_AXLES;
@@ -22,13 +24,7 @@ fn with_number(row: [u8; LONGEST_FILE], at: usize, width: usize, number: u64) ->
     ensures { λ r. ⌜ r ≡ paste row at (bytesOf width number) width ⌝ }
 {
     let mut bytes = row;
-    let mut rest = number;
-    let mut i: usize = 0;
-    while i < width {
-        bytes[at + i] = (rest % 256) as u8;
-        rest = rest / 256;
-        i += 1;
-    }
+    put_number(&mut bytes, at, width, number);
     bytes
 }
 

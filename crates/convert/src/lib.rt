@@ -9,6 +9,7 @@ use files::Refusal;
 use files::answer::or_else;
 use files::answer::test;
 use files::limits::Limits;
+use files::output::Written;
 use files::words::wider;
 use member::record::Vehicle;
 use section::Kgf;
@@ -22,8 +23,9 @@ ghost use lib.ListN.{length, take};
 ghost use Rattle.member.specs.Fields.{MOST-AXLES};
 ghost use Rattle.vehicles.specs.VehicleFile.{readVehicleOf};
 ghost use Rattle.convert.specs.VehicleBytes.{LONGEST-FILE};
-ghost use Rattle.convert.specs.declared.Converted.the-variants.{Refused as NotConverted};
-ghost use Rattle.convert.specs.Convert.{convertAnswer, only, wantedVersion, givenVersion, weightFits, heavyAnswer, converted, convertedBytes, convertedOut};
+ghost use Rattle.files.specs.Writing.{writtenAnswer};
+ghost use Rattle.files.specs.declared.output.Written.the-variants.{Refused as NotWritten};
+ghost use Rattle.convert.specs.Convert.{only, wantedVersion, givenVersion, weightFits, heavyAnswer, converted, convertedBytes, convertedOut};
 
 // The version that is wanted; the file has the other one.
 pub enum Wanted {
@@ -31,15 +33,9 @@ pub enum Wanted {
     Version2,
 }
 
-// What the call gives: the number of bytes written, or a refusal.
-pub enum Converted {
-    Written(u64),
-    Refused(Refusal),
-}
-
 // What the call gives, and the bytes that it writes: none where it is refused.
 struct Work {
-    answer: Converted,
+    answer: Written,
     bytes: [u8; LONGEST_FILE],
     length: usize,
 }
@@ -108,11 +104,11 @@ fn heavy_answer(v: Vehicle, wanted: Wanted) -> Reading
 
 // Where the call is refused no byte is written.
 fn refused_work(refusal: Refusal) -> Work
-    ensures is { λ r. ⌜ r .answer ≡ NotConverted refusal ⌝ }
+    ensures is { λ r. ⌜ r .answer ≡ NotWritten refusal ⌝ }
     ensures length { λ r. ⌜ r .length ≡ 0 ⌝ }
 {
     Work {
-        answer: Converted::Refused(refusal),
+        answer: Written::Refused(refusal),
         bytes: [0; LONGEST_FILE],
         length: 0,
     }
@@ -120,7 +116,7 @@ fn refused_work(refusal: Refusal) -> Work
 
 // The bytes that are to be written, and how many. They are worked out before any is written, so that a refusal has written none.
 fn work_out(file: &[u8], wanted: Wanted, room: usize) -> Work
-    ensures is { λ r. ⌜ convertAnswer (r .answer) ≡ converted wanted (now (file .entry)) room ⌝ }
+    ensures is { λ r. ⌜ writtenAnswer (r .answer) ≡ converted wanted (now (file .entry)) room ⌝ }
     ensures bytes { λ r. ⌜ take (r .length) (r .bytes) ≡ convertedBytes wanted (now (file .entry)) room ⌝ }
     ensures length { λ r. ⌜ r .length ≡ length (convertedBytes wanted (now (file .entry)) room) ⌝ }
     ensures cap { λ r. ⌜ (r .length ≤ LONGEST-FILE) × (r .length ≤ room) ⌝ }
@@ -134,7 +130,7 @@ fn work_out(file: &[u8], wanted: Wanted, room: usize) -> Work
     let answer = or_else(own, or_else(heavy, test(14, length <= room)));
     match answer {
         Reading::Taken => Work {
-            answer: Converted::Written(length as u64),
+            answer: Written::Bytes(length as u64),
             bytes: vehicle_bytes(v, version),
             length,
         },
@@ -143,8 +139,8 @@ fn work_out(file: &[u8], wanted: Wanted, room: usize) -> Work
 }
 
 // A vehicle file of any length into the output, in the version that is wanted.
-pub fn convert(file: &[u8], wanted: Wanted, out: &mut [u8]) -> Converted
-    ensures is { λ r. ⌜ convertAnswer r ≡ converted wanted (now (file .entry)) (length (now (out .entry))) ⌝ }
+pub fn convert(file: &[u8], wanted: Wanted, out: &mut [u8]) -> Written
+    ensures is { λ r. ⌜ writtenAnswer r ≡ converted wanted (now (file .entry)) (length (now (out .entry))) ⌝ }
     ensures out { λ r. ⌜ now (out .exit) ≡ convertedOut wanted (now (file .entry)) (now (out .entry)) ⌝ }
 {
     let work = work_out(file, wanted, out.len());

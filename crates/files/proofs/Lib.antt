@@ -4,6 +4,8 @@ mod Tables
 pub mod Headers
 pub mod Each
 pub mod Faults
+pub mod Numbers
+pub mod Writing
 pub mod Members
 mod Sequences
 mod OneOrder

@@ -1,6 +1,7 @@
 pub mod Words
 pub mod Reading
 pub mod Answer
+pub mod Writing
 pub mod Header
 pub mod Sequence
 pub mod SurveyFile

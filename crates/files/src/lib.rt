@@ -4,6 +4,7 @@ pub mod answer;
 mod fault;
 pub mod header;
 pub mod limits;
+pub mod output;
 mod ranges;
 mod sequence;
 pub mod survey;

@@ -34,7 +34,7 @@ pub const HEADER: usize = 6;
 // Sixteen words.
 pub const RECORD: usize = 32;
 
-fn record_at(bytes: &[u8], i: usize) -> Member
+pub fn record_at(bytes: &[u8], i: usize) -> Member
     requires { ⌜ SURVEY-HEADER + RECORD * (i + 1) ≤ length (now bytes) ⌝ }
     ensures { λ r. ⌜ r ≡ recordAt (now (bytes .entry)) i ⌝ }
 {

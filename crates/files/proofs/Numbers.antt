@@ -6,8 +6,7 @@ use mathlib.Core.List.{List, [], _∷_, _++_, append-assoc}
 use native.Mathlib.Omega.{arith}
 use lib.ListN.{length, getD, take, drop, length-append}
 use lib.Seq.{drop-cons, getD-at, append-snoc, take-add, drop-drop}
-use Rattle.files.specs.Words.{byteAt, Bytes, numberAt}
-use Rattle.convert.specs.VehicleBytes.{bytesOf}
+use Rattle.files.specs.Words.{byteAt, Bytes, numberAt, bytesOf}
 
 pub length-bytes : (width number : ℕ) → length (bytesOf width number) ≡ width
 length-bytes zero number = refl
