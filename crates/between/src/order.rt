@@ -1,31 +1,16 @@
 // Whether two surveys are in order: field by field, what wears is as great or greater in the second, and all else is equal.
 ghost use mathlib.Core.Path.{_≡_};
-ghost use mathlib.Core.Bool.{_||_};
 ghost use Prim.Native.Nat.{_≤_};
 ghost use lib.Dec.{eqb, leb};
 ghost use Rattle.section.specs.Choose.{choose};
 ghost use Rattle.member.specs.Fields.{MOST-MEMBERS};
-ghost use Rattle.member.specs.Format.{holds};
-ghost use Rattle.member.specs.Wear.{rotFields, lostFields};
 ghost use Rattle.rating.specs.Surveyed.{memberAt};
 ghost use Rattle.between.specs.Order.{mayGrow, ordered, orderAnswer};
 use files::Reading;
 use files::Refusal;
 use member::record::*;
-
-// The field is rot of the section, or lost area.
-fn section_wears(code: u16, f: usize) -> bool
-    ensures { λ r. ⌜ r ≡ (holds f (rotFields code) || holds f (lostFields code)) ⌝ }
-{
-    match code {
-        1 => f == S2,
-        2 => (f == S3) | (f == S4) | (f == S6),
-        3 => f == S5,
-        4 => f == S2,
-        5 => f == S2,
-        _ => false,
-    }
-}
+use member::wear::is_loss;
+use member::wear::is_rot;
 
 // The number in the field may be greater in the second survey. Of closely spaced stringers only the dead load may: their rot changes the
 // spread.
@@ -34,7 +19,7 @@ fn may_grow(kind: u16, code: u16, f: usize) -> bool
 {
     let dead = f == DEAD_LOAD;
     let spaced = kind != CLOSE_STRINGER;
-    let worn = section_wears(code, f);
+    let worn = is_rot(code, f) | is_loss(code, f);
     dead | (spaced & worn)
 }
 

@@ -2,3 +2,4 @@
 mod formula;
 pub mod permitted;
 pub mod record;
+pub mod wear;
