@@ -1,0 +1,97 @@
+-- Two survey files: their tests in a row, from what was read, and what passes them all.
+-- Assumes nothing.
+use Prim.Native.Nat.{ℕ, _+_, _*_, _≤_}
+use mathlib.Core.Path.{_≡_, refl, sym, ap, _∙_}
+use mathlib.Core.List.{List}
+use native.Mathlib.Decide.{ℕ-discrete}
+use lib.Dec.{leb}
+use lib.ListN.{length}
+use borrow.Author.Tests.{eq-eqb, ne-eqb, leb-true, le-leb}
+use Rattle.files.specs.Reading.{firstFault, orElse, test, firstRefusal}
+use Rattle.files.specs.SurveyFile.{SURVEY-HEADER, RECORD, countOf, readSurvey}
+use Rattle.files.specs.Writing.{writtenAnswer, onto}
+use Rattle.files.specs.declared.Reading.{Reading}
+use Rattle.files.specs.declared.Reading.the-variants.{Taken, Refused}
+use Rattle.files.specs.declared.Refusal.{Refusal}
+use Rattle.files.specs.declared.output.Written.the-variants.{Bytes}
+use Rattle.files.specs.declared.output.Written.the-variants.{Refused as NotWritten}
+use Rattle.files.proofs.Faults.{refusal, refused-not, both-taken, or-none, test-holds}
+use Rattle.join.specs.Join.{pairFaults, pairAnswer, output, joinTests, joined, joinedBytes, joinedOut}
+use Rattle.join.proofs.Surveys.{length-survey}
+
+module _ (first second : List ℕ) where
+  -- another count is the refusal, else the first record at fault
+  pub count-differs : ¬ (countOf first ≡ countOf second) → pairAnswer first second ≡ refusal 18 0
+  unfolding pairAnswer
+  count-differs d = rw (ne-eqb _ _ d)
+
+  pub count-alike : countOf first ≡ countOf second → pairAnswer first second ≡ firstFault 1 (pairFaults first second (countOf first))
+  unfolding pairAnswer
+  count-alike e = rw (eq-eqb _ _ e)
+
+  -- surveys that may be joined have the same count
+  pub pair-count : pairAnswer first second ≡ Taken → countOf first ≡ countOf second
+  pair-count e =
+      elim (ℕ-discrete (countOf first) (countOf second)) [
+        | yes same ↦ same
+        | no other ↦ absurd (refused-not 18 0 (sym (count-differs other) ∙ e))
+      ]
+
+  pub length-output : length (output first second) ≡ SURVEY-HEADER + RECORD * countOf first
+  length-output = length-survey _ (countOf first)
+
+  -- what holds where no test fails
+  pub record Passed (room : ℕ) : Type 0 where
+    pub first-taken : readSurvey first .answer ≡ Taken
+    pub second-taken : readSurvey second .answer ≡ Taken
+    pub pair : pairAnswer first second ≡ Taken
+    pub room-enough : length (output first second) ≤ room
+
+  module _ (room : ℕ) where
+    -- the row of tests: after the files' own, or where one of these refuses
+    pub tests-are : {pair : Reading} → orElse (readSurvey first .answer) (readSurvey second .answer) ≡ Taken →
+        pair ≡ orElse (pairAnswer first second) (test 14 (leb (length (output first second)) room)) →
+        pair ≡ firstRefusal (joinTests first second room)
+    tests-are t p = p ∙ go (readSurvey first .answer) (readSurvey second .answer) (pairAnswer first second) (test 14 (leb (length (output first second)) room)) t
+      where
+        go : (a b pair enough : Reading) → orElse a b ≡ Taken → orElse pair enough ≡ orElse a (orElse b (orElse pair (orElse enough Taken)))
+        go Taken Taken pair enough e = ap (orElse pair) (sym (or-none enough))
+        go Taken (Refused r) pair enough e = absurd (refused-not (r .number) (r .place) e)
+        go (Refused r) b pair enough e = absurd (refused-not (r .number) (r .place) e)
+
+    pub tests-refuse : (r : Refusal) → orElse (readSurvey first .answer) (readSurvey second .answer) ≡ Refused r →
+        orElse (readSurvey first .answer) (readSurvey second .answer) ≡ firstRefusal (joinTests first second room)
+    tests-refuse r = go (readSurvey first .answer) (readSurvey second .answer) _
+      where
+        go : (a b rest : Reading) → orElse a b ≡ Refused r → orElse a b ≡ orElse a (orElse b rest)
+        go Taken Taken rest e = absurd (refused-not (r .number) (r .place) (sym e))
+        go Taken (Refused q) rest e = refl
+        go (Refused q) b rest e = refl
+
+    pub all-passed : firstRefusal (joinTests first second room) ≡ Taken → Passed room
+    all-passed e =
+        let (a, files) = both-taken _ _ e in
+        let (b, rest) = both-taken _ _ files in
+        let (pair, end) = both-taken _ _ rest in
+        let (enough, none) = both-taken _ _ end in
+        record { first-taken = a; second-taken = b; pair = pair; room-enough = leb-true _ _ (test-holds 14 _ enough) }
+
+    pub passed-all : Passed room → firstRefusal (joinTests first second room) ≡ Taken
+    passed-all p = rw (p .first-taken, p .second-taken, p .pair, le-leb _ _ (p .room-enough))
+
+    -- the answer and the output, where no test fails and where one does
+    pub written-given : Passed room → {n : ℕ} → n ≡ length (output first second) → writtenAnswer (Bytes n) ≡ joined first second room
+    unfolding joined
+    written-given p e = rw (passed-all p, e)
+
+    pub refusal-given : (r : Refusal) → firstRefusal (joinTests first second room) ≡ Refused r → writtenAnswer (NotWritten r) ≡ joined first second room
+    unfolding joined
+    refusal-given r e = rw e
+
+  pub out-written : (out : List ℕ) → Passed (length out) → joinedOut first second out ≡ onto (output first second) out
+  unfolding joinedBytes
+  out-written out p = rw (passed-all (length out) p)
+
+  pub out-kept : (out : List ℕ) (r : Refusal) → firstRefusal (joinTests first second (length out)) ≡ Refused r → joinedOut first second out ≡ out
+  unfolding joinedBytes
+  out-kept out r e = rw e

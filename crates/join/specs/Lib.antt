@@ -1,0 +1,3 @@
+pub mod Rule
+pub mod SurveyBytes
+pub mod Join
