@@ -10,26 +10,18 @@ use native.Mathlib.Omega.{arith}
 use lib.ListN.{length}
 use borrow.Author.Tests.{ne-eqb, lt-leb}
 use Rattle.member.specs.declared.record.Vehicle.{Vehicle}
-use Rattle.files.specs.Allowed.{AllowedSurveyFile}
-use Rattle.files.specs.Refused.{SurveyRefusal}
-use Rattle.files.specs.SurveyFile.{countOf, recordAt, readSurvey}
+use Rattle.files.specs.SurveyFile.{countOf, recordAt}
 use Rattle.files.specs.Reading.{firstRefusal}
 use Rattle.files.specs.declared.Reading.the-variants.{Taken, Refused}
 use Rattle.files.specs.declared.Refusal.{Refusal}
 use Rattle.files.proofs.Faults.{refusal, reading-case, failing-named}
-use Rattle.files.proofs.Surveys.{taken-allowed, allowed-taken, refused-named, named-refused}
+use Rattle.files.proofs.Surveys.{taken-allowed, allowed-taken, named-refused, either-file}
 use Rattle.between.specs.Order.{orderOf}
 use Rattle.between.specs.Between.{betweenTests, betweenList}
 use Rattle.between.specs.Fault.{BothAllowed, MayBeJudged, BetweenFault, no-vehicle, first-refused, second-refused, other-count, not-ordered, short-list}
 use Rattle.between.proofs.Orders.{count-differs, count-alike, test-ordered, ordered-test, orderedAt, taken-in-order, in-order-taken, first-unordered}
 use Rattle.between.proofs.Lists.{bounds-length}
 use Rattle.between.proofs.Pairs.{Passed, passed-all, list-kept}
-
--- a survey file is allowed, or refused by its own refusal
-pub either-file : (bytes : List ℕ) → AllowedSurveyFile bytes ⊎ ((r : Refusal) × SurveyRefusal bytes r)
-either-file bytes =
-    reading-case (readSurvey bytes .answer) (λ a. AllowedSurveyFile bytes ⊎ ((r : Refusal) × SurveyRefusal bytes r)) (λ e. inl (taken-allowed bytes e))
-    (λ r e. inr (r, refused-named bytes r e))
 
 module _ (v : Vehicle) (first second : List ℕ) (room : ℕ) where
   -- a fault in plain words is the refusal

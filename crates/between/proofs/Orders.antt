@@ -15,6 +15,7 @@ use Rattle.member.specs.Fields.{KIND, CODE, DEAD-LOAD, MU-B, FIELDS, field}
 use Rattle.member.specs.Format.{holds}
 use Rattle.member.specs.Wear.{rotFields, lostFields, rots, wears}
 use Rattle.member.specs.declared.record.Member.{Member}
+use Rattle.member.proofs.Wears.{no-rot, no-loss}
 use Rattle.files.specs.Reading.{firstFault}
 use Rattle.files.specs.SurveyFile.{countOf, recordAt}
 use Rattle.files.specs.Words.{each}
@@ -22,22 +23,6 @@ use Rattle.files.specs.declared.Reading.the-variants.{Taken}
 use Rattle.files.proofs.Faults.{refusal, refused-not, all-hold, hold-all, first-failing}
 use Rattle.files.proofs.Tests.{both, all-of, refutes}
 use Rattle.between.specs.Order.{mustStay, mayGrow, fieldOrdered, ordered, orderFault, Ordered, orderAnswer, orderOf, OrderedBefore, InOrder}
-
--- the dead load is no rot and no lost area of any section
-neither-holds : (n : ℕ) (b : Bool) (xs ys : List ℕ) → holds n xs ≡ false → holds n ys ≡ false → holds n (choose b xs ys) ≡ false
-neither-holds n true xs ys h k = h
-neither-holds n false xs ys h k = k
-
-no-rot : (code : ℕ) → holds DEAD-LOAD (rotFields code) ≡ false
-unfolding rotFields
-no-rot code =
-    neither-holds DEAD-LOAD (eqb code 1) _ _ refl
-    (neither-holds DEAD-LOAD (eqb code 2) _ _ refl
-    (neither-holds DEAD-LOAD (eqb code 3) _ _ refl (neither-holds DEAD-LOAD (eqb code 5) _ _ refl refl)))
-
-no-loss : (code : ℕ) → holds DEAD-LOAD (lostFields code) ≡ false
-unfolding lostFields
-no-loss code = neither-holds DEAD-LOAD (eqb code 2) _ _ refl (neither-holds DEAD-LOAD (eqb code 4) _ _ refl refl)
 
 -- by a record's tests: section's rot, deck, lost area, dead load. What is no dead load stays in kind 7
 none-grows : (rot deck lost : Bool) → false ≡ (((rot || deck) || lost || false) && not ((rot || deck) || lost))
@@ -66,7 +51,7 @@ may-grow-is kind code f = go (eqb kind 7) (eqb f DEAD-LOAD) refl
         (dead || (not seven && (holds f (rotFields code) || holds f (lostFields code)))) ≡
         (((holds f (rotFields code) || (eqb f MU-B && seven)) || holds f (lostFields code) || dead) &&
         not (seven && ((holds f (rotFields code) || (eqb f MU-B && seven)) || holds f (lostFields code))))
-    go true true e = rw (eqb-true f DEAD-LOAD e, no-rot code, no-loss code)
+    go true true e = rw (eqb-true f DEAD-LOAD e, no-rot DEAD-LOAD (inl (omega arith)) code, no-loss DEAD-LOAD (inl (omega arith)) code)
     go true false e = none-grows (holds f (rotFields code)) (eqb f MU-B && true) (holds f (lostFields code))
     go false dead e = each-grows (holds f (rotFields code)) (eqb f MU-B) (holds f (lostFields code)) dead
 

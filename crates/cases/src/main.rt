@@ -1,7 +1,7 @@
 // Runs the script of stored cases on standard input and prints what the calls answer. Script and expected output are written by the
 // independent reference: (cd host && cargo run --release -p reference --example cases -- ../crates/cases)
+mod buffers;
 mod calls;
-mod converter;
 mod print;
 mod readings;
 mod script;
@@ -11,7 +11,7 @@ use libc::STDIN_FILENO;
 use script::run;
 
 // A script that fills this is too long: its last steps would be lost.
-const SPACE: usize = 262144;
+const SPACE: usize = 393216;
 
 fn main() {
     let mut space = [0u8; SPACE];

@@ -1,9 +1,9 @@
 // The answers as text: a space before every field, and the document's number and place of a refusal.
 use between::Between;
 use between::BetweenJudged;
-use convert::Converted;
 use files::Reading;
 use files::Refusal;
+use files::output::Written;
 use libc::STDOUT_FILENO;
 use rating::judging::Judgement;
 use rating::judging::Verdict;
@@ -131,13 +131,13 @@ pub fn between(answer: BetweenJudged) {
     }
 }
 
-pub fn converted(answer: Converted) {
+pub fn written(answer: Written) {
     match answer {
-        Converted::Written(n) => {
+        Written::Bytes(n) => {
             number(n);
             text(b"\n");
         }
-        Converted::Refused(r) => refusal(r),
+        Written::Refused(r) => refusal(r),
     }
 }
 

@@ -7,8 +7,10 @@
 //         first survey, the others the first and the second
 //   C n   convert a vehicle file into a buffer: of the n bytes that follow, the first is the version wanted, the next two the buffer's length,
 //         the others the file
+//   M n   join two surveys into a buffer: of the n bytes that follow, the first two are the buffer's length, the next two the length of the
+//         first survey, the others the first and the second
+use crate::buffers;
 use crate::calls;
-use crate::converter;
 use crate::print;
 use crate::readings;
 use crate::yard;
@@ -59,7 +61,7 @@ fn end_of(step: Step, from: usize, script: &[u8]) -> usize
     let letter = step.letter;
     let number = step.number;
     match letter {
-        b'T' | b'S' | b'V' | b'Y' | b'B' | b'C' => {
+        b'T' | b'S' | b'V' | b'Y' | b'B' | b'C' | b'M' => {
             if number <= script.len() - from {
                 from + number
             } else {
@@ -82,28 +84,46 @@ fn run_yard(session: Session, bytes: &[u8]) -> Session
     yard::judge(session, &bytes[NUMBER..], number_at(bytes, 0))
 }
 
-// A script that is cut within the first survey or before it: its bytes are printed.
+// Two surveys stand behind two numbers, of which the second is the first survey's length.
+const SURVEYS: usize = 2 * NUMBER;
+
+// Where the first survey ends; 0 where the script is cut within it or before it.
+fn first_end(bytes: &[u8]) -> usize
+    ensures { λ r. ⌜ r ≤ length (now (bytes .entry)) ⌝ }
+{
+    if bytes.len() < SURVEYS {
+        return 0;
+    }
+    let first = number_at(bytes, NUMBER);
+    if bytes.len() - SURVEYS < first {
+        return 0;
+    }
+    SURVEYS + first
+}
+
+// A script that is cut: its bytes are printed.
 fn run_between(session: Session, bytes: &[u8]) -> Session
     requires { ⌜ Valid session ⌝ }
     ensures { λ r. ⌜ Valid r ⌝ }
 {
-    let from = 2 * NUMBER;
-    if bytes.len() < from {
+    let end = first_end(bytes);
+    if end < SURVEYS {
         print::line(bytes);
         return session;
     }
-    let first = number_at(bytes, NUMBER);
-    if bytes.len() - from < first {
+    let entries = number_at(bytes, 0);
+    readings::judge(session, &bytes[SURVEYS..end], &bytes[end..], entries)
+}
+
+// A script that is cut: its bytes are printed.
+fn run_join(bytes: &[u8]) {
+    let end = first_end(bytes);
+    if end < SURVEYS {
         print::line(bytes);
-        return session;
+        return;
     }
-    let end = from + first;
-    readings::judge(
-        session,
-        &bytes[from..end],
-        &bytes[end..],
-        number_at(bytes, 0),
-    )
+    let room = number_at(bytes, 0);
+    buffers::join_with(&bytes[SURVEYS..end], &bytes[end..], room);
 }
 
 // A script that is cut before the file, or wants another version: its bytes are printed.
@@ -115,8 +135,8 @@ fn run_convert(bytes: &[u8]) {
     }
     let room = number_at(bytes, 1);
     match bytes[0] {
-        1 => converter::run(&bytes[from..], Wanted::Version1, room),
-        2 => converter::run(&bytes[from..], Wanted::Version2, room),
+        1 => buffers::convert_with(&bytes[from..], Wanted::Version1, room),
+        2 => buffers::convert_with(&bytes[from..], Wanted::Version2, room),
         _ => print::line(bytes),
     }
 }
@@ -137,6 +157,10 @@ fn run_step(session: Session, step: Step, bytes: &[u8]) -> Session
         b'B' => run_between(session, bytes),
         b'C' => {
             run_convert(bytes);
+            session
+        }
+        b'M' => {
+            run_join(bytes);
             session
         }
         _ => {

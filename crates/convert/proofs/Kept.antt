@@ -10,10 +10,9 @@ use Rattle.member.specs.declared.record.Vehicle.{Vehicle}
 use Rattle.files.specs.Header.{versionOf}
 use Rattle.files.specs.Words.{numberAt}
 use Rattle.vehicles.specs.VehicleFile.{VEHICLE-HEADER, weightBytes, axleSize, classOf, trackOf, axlesOf, weightAt, distanceAt}
-use Rattle.vehicles.proofs.Axles.{two-bytes-at}
 use Rattle.convert.specs.VehicleBytes.{headBytes, axleBytes, axlesBytes, vehicleBytes}
 use Rattle.files.specs.Words.{bytesOf}
-use Rattle.files.proofs.Numbers.{FitsIn, length-bytes, number-written}
+use Rattle.files.proofs.Numbers.{FitsIn, length-bytes, number-written, two-bytes-at}
 use Rattle.files.proofs.Writing.{row-split}
 use Rattle.convert.proofs.Files.{length-with}
 

@@ -13,12 +13,12 @@ use Rattle.files.specs.Header.{versionOf}
 use Rattle.files.specs.Words.{Bytes, byteAt, wordAt, numberAt, bytesOf}
 use Rattle.vehicles.specs.VehicleFile.{VEHICLE-HEADER, weightBytes, axleSize, axleAt, classOf, trackOf, axlesOf, weightAt, distanceAt, weightsIn, vehicleOf}
 use Rattle.vehicles.specs.Allowed.{AllowedVehicleOf}
-use Rattle.vehicles.proofs.Axles.{of-version, two-bytes-at, axle-within}
+use Rattle.vehicles.proofs.Axles.{of-version, axle-within}
 use Rattle.vehicles.proofs.Vehicles.{weight-is, distance-is}
 use Rattle.convert.specs.VehicleBytes.{headBytes, axlesBytes, vehicleBytes}
 use Rattle.convert.specs.Convert.{only}
 use Rattle.vehicles.specs.Alike.{SameNumbers}
-use Rattle.files.proofs.Numbers.{FitsIn, window, beside, number-read}
+use Rattle.files.proofs.Numbers.{FitsIn, window, beside, number-read, two-bytes-at}
 use Rattle.convert.proofs.Files.{length-vehicle}
 use Rattle.vehicles.proofs.Alike.{same-vehicle}
 use Rattle.convert.proofs.Kept.{version-written, class-written, track-written, axles-written, weight-written, distance-written}

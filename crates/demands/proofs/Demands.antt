@@ -47,6 +47,9 @@ use Rattle.between.proofs.Within.{record-at, counted}
 use Rattle.convert.specs.Claims.{written as converted-bytes}
 use Rattle.vehicles.proofs.Alike.{read-alike}
 use Rattle.convert.proofs.Claims.{convert-answered, convert-taken}
+use Rattle.join.specs.Claims.{written as joinedSurvey}
+use Rattle.join.proofs.Claims.{other-member, join-answered, join-taken}
+use Rattle.join.proofs.Tables.{rest-must-agree}
 use Rattle.session.specs.Answers.{Outcome, Values, WithMargin, RefusedAt, refusedBy, judgementAnswer}
 use Rattle.session.specs.Calls.{newSession, members, stateFault, rateFault, judgeFault, loadSurvey, loadVehicle, storedSurvey, storedVehicle, unlessFault, rate, judge, judgeList, loadFiles, thenJudge, judgeFiles}
 use Rattle.demands.specs.Demands.{Demand1, Demand2, Demand3}
@@ -158,6 +161,7 @@ demand1 =
           between-answered (after newSession calls) first second list .named 12 0 (no-vehicle (rw (vehicle-stays newSession calls h)));
       between-answered = between-answered;
       convert-answered = convert-answered;
+      join-answered = join-answered;
     }
 
 files-answer : (survey vehicle : List ℕ) → AllowedSurveyFile survey → AllowedVehicleFile vehicle →
@@ -167,6 +171,10 @@ files-answer survey vehicle a b =
     let e = surveys.allowed-taken survey a in
     let f = vehicles.allowed-taken VEHICLE-VERSIONS vehicle b in
     rw (survey-load newSession survey e, vehicle-load (record { survey = surveyOf survey; vehicle = newSession .vehicle }) vehicle f, judge-ready (surveyOf survey .count) (vehicleOf vehicle .axles) 128 (omega (arith, a .count)) (omega (arith, b .vehicle .axles)) (omega (arith, a .count)))
+
+-- an allowed survey file is taken
+allowed-loads : (s : Session) (bytes : List ℕ) → AllowedSurveyFile bytes → loadSurvey s bytes .answer ≡ Values []
+allowed-loads s bytes a = ap (λ (o : Outcome). o .answer) (survey-load s bytes (surveys.allowed-taken bytes a))
 
 -- files that are read alike are loaded alike
 same-read : (s : Session) (file file' : List ℕ) → readVehicle file' ≡ readVehicle file → loadVehicle s file' ≡ loadVehicle s file
@@ -178,7 +186,7 @@ demand2 =
     record {
       survey-taken = λ s bytes. (
         λ h. surveys.taken-allowed bytes (survey-read s bytes h),
-        λ a. ap (λ (o : Outcome). o .answer) (survey-load s bytes (surveys.allowed-taken bytes a)),
+        allowed-loads s bytes,
       );
       vehicle-taken = λ s bytes. (
         λ h. vehicles.taken-allowed VEHICLE-VERSIONS bytes (vehicle-read s bytes h),
@@ -204,6 +212,10 @@ demand2 =
       converted = convert-taken;
       rates-alike = λ s file file' a a' same. same-read s file file' (read-alike file file' a a' same);
       converted-alike = λ s wanted file out n w. same-read s file (converted-bytes wanted file out n) (convert-taken wanted file out .files n w .alike);
+      joined = join-taken;
+      must-agree = rest-must-agree;
+      other-member = other-member;
+      joined-loads = λ s first second out n w. allowed-loads s (joinedSurvey first second out n) (join-taken first second out .files n w .allowed);
     }
 
 -- both loads of two files: where they are taken the survey is allowed, and is what the session then holds

@@ -1,6 +1,6 @@
 -- The three demands, each a record whose parts stand under the sentence that they state. proofs/Demands.antt proves each of them, of
--- the calls' definitions (session/specs: Calls, Yard, Readings; convert/specs/Convert.antt); the contracts of `Session` and of `convert` tie the code to
--- those.
+-- the calls' definitions (session/specs: Calls, Yard, Readings; convert/specs/Convert.antt; join/specs/Join.antt); the contracts of `Session`, of
+-- `convert` and of `join` tie the code to those.
 use Prim.Native.Nat.{ℕ, _<_}
 use mathlib.Core.Path.{_≡_}
 use mathlib.Core.List.{List, [], _∷_}
@@ -25,6 +25,7 @@ use Rattle.between.specs.declared.Between.{Between}
 use Rattle.vehicles.specs.Alike.{SameNumbers}
 use Rattle.convert.specs.Claims.{Writes, written, ConvertAnswered, ConvertTaken}
 use Rattle.convert.specs.declared.Wanted.{Wanted}
+use Rattle.join.specs.Claims.{Writes as JoinWrites, written as joinedSurvey, RestMustAgree, OtherMember, JoinAnswered, JoinTaken}
 use Rattle.session.specs.Answers.{Values, RefusedAt, refusedBy, judgementAnswer}
 use Rattle.session.specs.Calls.{Valid, newSession, members, loadSurvey, loadVehicle, rate, judge, judgeList, judgeFiles}
 use Rattle.demands.specs.History.{Call, LoadSurvey, LoadVehicle, after, TakesSurvey, TakesVehicle, NoneTakes, LastTakes, TakenLast, Holds}
@@ -75,6 +76,8 @@ pub record Demand1 : Type 0 where
   pub between-answered : (s : Session) (first second list : List ℕ) → BetweenAnswered s first second list
   -- and of the converter, request 9/13, which needs no session
   pub convert-answered : (wanted : Wanted) (file out : List ℕ) → ConvertAnswered wanted file out
+  -- and of the join of two surveys, request 10/13: "the joined survey is not loaded", so it needs none either
+  pub join-answered : (first second out : List ℕ) → JoinAnswered first second out
 
 -- Demand 2.
 pub record Demand2 : Type 0 where
@@ -106,6 +109,14 @@ pub record Demand2 : Type 0 where
       loadVehicle s file' ≡ loadVehicle s file
   pub converted-alike : (s : Session) (wanted : Wanted) (file out : List ℕ) (n : ℕ) → Writes wanted file out n →
       loadVehicle s (written wanted file out n) ≡ loadVehicle s file
+  -- request 10/13: two surveys are joined exactly when the request allows it, into one that has the mean of each pair of readings; which fields must
+  -- agree, and that another kind or code is refused as such
+  pub joined : (first second out : List ℕ) → JoinTaken first second out
+  pub must-agree : RestMustAgree
+  pub other-member : OtherMember
+  -- "A mean outside its range cannot arise, and this is to be shown.": the load call takes the joined survey
+  pub joined-loads : (s : Session) (first second out : List ℕ) (n : ℕ) → JoinWrites first second out n →
+      loadSurvey s (joinedSurvey first second out n) .answer ≡ Values []
 
 -- Demand 3.
 pub record Demand3 : Type 0 where

@@ -6,7 +6,7 @@ use mathlib.Core.List.{List, [], _∷_, _++_, append-assoc}
 use native.Mathlib.Omega.{arith}
 use lib.ListN.{length, getD, take, drop, length-append}
 use lib.Seq.{drop-cons, getD-at, append-snoc, take-add, drop-drop}
-use Rattle.files.specs.Words.{byteAt, Bytes, numberAt, bytesOf}
+use Rattle.files.specs.Words.{byteAt, Bytes, wordAt, numberAt, bytesOf}
 
 pub length-bytes : (width number : ℕ) → length (bytesOf width number) ≡ width
 length-bytes zero number = refl
@@ -18,6 +18,10 @@ pub next-byte : (bytes : List ℕ) (i left rest : ℕ) → i < length bytes → 
 next-byte bytes i left rest h e =
     let cons : bytesOf (suc left) rest ≡ getD bytes i 0 ∷ drop (suc i) bytes = e ∙ drop-cons bytes i 0 h in
     (sym (ap (λ (l : List ℕ). getD l 0 0) cons), ap (drop 1) cons)
+
+-- a word is a number of two bytes
+pub two-bytes-at : (bytes : List ℕ) (at : ℕ) → numberAt 2 bytes at ≡ wordAt bytes at
+two-bytes-at bytes at = omega arith
 
 -- so many bytes hold the number
 abbrev pub FitsIn : (width number : ℕ) → Type 0

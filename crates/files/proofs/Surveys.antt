@@ -3,7 +3,7 @@
 use Prim.Native.Nat.{ℕ, zero, suc, _+_, _-_, _*_, _≤_, _<_}
 use mathlib.Core.Path.{_≡_, refl, ap, sym, _∙_}
 use mathlib.Core.List.{List, _∷_}
-use mathlib.Core.Logic.{inl, inr, ⊎-elim}
+use mathlib.Core.Logic.{_⊎_, inl, inr, ⊎-elim}
 use native.Mathlib.Omega.{arith}
 use lib.ListN.{length, getD, replicate}
 use Rattle.member.specs.declared.record.Member.{Member}
@@ -20,7 +20,7 @@ use Rattle.files.specs.declared.Reading.{Reading}
 use Rattle.files.specs.declared.Reading.the-variants.{Taken, Refused}
 use Rattle.files.specs.declared.SurveyRead.{SurveyRead}
 use Rattle.files.proofs.Each.{length-each, getD-each, getD-padded}
-use Rattle.files.proofs.Faults.{refusal, both-taken, one-refused, head-first, head-clear, fault-at, taken-none, none-taken, FaultAt, refused-at}
+use Rattle.files.proofs.Faults.{refusal, reading-case, both-taken, one-refused, head-first, head-clear, fault-at, taken-none, none-taken, FaultAt, refused-at}
 use Rattle.files.proofs.Headers.{headed, header-clear, header-named, header-is, header-number}
 use Rattle.files.proofs.Sequences.{record-field, fault-given, fault-read, sequence-read, sequence-given, sequence-first, sequence-refused}
 use Rattle.files.proofs.Refusals.{clear-allowed, allowed-clear, member-named, member-is, member-number}
@@ -212,3 +212,9 @@ module _ (bytes : List ℕ) where
           let there : r .place - 1 + 1 ≡ r .place = omega (arith, h .place (omega arith)) in
           rw (good-records (f .headed) (λ k l. f .good k (omega arith)))
           (sequence-refused bytes (countOf bytes) (r .place - 1) (f .version) (f .within) (f .fault) (λ k l. f .first k (omega arith)) ∙ rw (there, e))
+
+  -- a survey file is allowed, or refused by its own refusal
+  pub either-file : AllowedSurveyFile bytes ⊎ ((r : Refusal) × SurveyRefusal bytes r)
+  either-file =
+      reading-case (readSurvey bytes .answer) (λ a. AllowedSurveyFile bytes ⊎ ((r : Refusal) × SurveyRefusal bytes r)) (λ e. inl (taken-allowed e))
+      (λ r e. inr (r, refused-named r e))

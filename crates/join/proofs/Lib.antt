@@ -1,3 +1,9 @@
 pub mod Surveys
+pub mod Rules
+pub mod Tables
 pub mod Records
+pub mod Means
+pub mod Outputs
 pub mod Pairs
+pub mod Named
+pub mod Claims

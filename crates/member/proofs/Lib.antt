@@ -5,3 +5,4 @@ pub mod Exact
 pub mod Falling
 pub mod Quantities
 pub mod Whole
+pub mod Wears

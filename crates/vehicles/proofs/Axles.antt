@@ -12,6 +12,7 @@ use Rattle.member.specs.Format.{Range, _‥_, In, weightRange}
 use lib.ListN.{length}
 use Rattle.files.specs.Words.{byteAt, wordAt, numberAt}
 use Rattle.files.specs.Header.{versionOf}
+use Rattle.files.proofs.Numbers.{two-bytes-at}
 use Rattle.vehicles.specs.VehicleFile.{VEHICLE-HEADER, LONGEST-AXLE, weightBytes, axleSize, axleAt, weightAt, distanceAt, WEIGHT, DISTANCE, axleField, weightsIn}
 
 -- a weight has four bytes in version 2, two in any other
@@ -45,9 +46,6 @@ four-bytes-at bytes at =
     let two : at + 1 + 1 ≡ at + 2 = omega arith in
     let three : at + 2 + 1 ≡ at + 3 = omega arith in
     rw (two, three) (omega arith)
-
-pub two-bytes-at : (bytes : List ℕ) (at : ℕ) → numberAt 2 bytes at ≡ wordAt bytes at
-two-bytes-at bytes at = omega arith
 
 -- where the axle of index i begins at `at`: its weight stands there, its distance behind it
 module _ (bytes : List ℕ) (i : ℕ) {version at : ℕ} (same : version ≡ versionOf bytes) (begins : at ≡ VEHICLE-HEADER + axleSize version * i) where

@@ -1,0 +1,66 @@
+-- A rule's tests in plain words, and the number that two readings give: it lies between them.
+-- Assumes nothing.
+use Prim.Native.Nat.{ℕ, _≤_}
+use mathlib.Core.Path.{_≡_, refl}
+use mathlib.Core.Bool.{true}
+use mathlib.Core.Logic.{inl, inr, ⊎-elim}
+use native.Mathlib.Decide.{decLe}
+use native.Mathlib.Omega.{arith}
+use borrow.Author.Tests.{eqb-true, eq-eqb, leb-true, le-leb}
+use Rattle.member.specs.Format.{Range, In}
+use Rattle.files.proofs.Tests.{both}
+use Rattle.join.specs.Rule.{agrees, near, joinedNumber}
+use Rattle.join.specs.Fault.{Agree, Near}
+use Rattle.join.specs.Claims.{Between}
+use Rattle.join.specs.declared.rule.Rule.{Rule}
+use Rattle.join.specs.declared.rule.Rule.the-variants.{MustAgree, MeanUp, MeanDown, AnyMeanUp}
+
+module _ (x y : ℕ) where
+  -- the tests, in plain words
+  pub agrees-plain : (r : Rule) → agrees r x y ≡ true → Agree r x y
+  agrees-plain MustAgree t = eqb-true x y t
+  agrees-plain (MeanUp apart) t = tt
+  agrees-plain (MeanDown apart) t = tt
+  agrees-plain AnyMeanUp t = tt
+
+  pub plain-agrees : (r : Rule) → Agree r x y → agrees r x y ≡ true
+  plain-agrees MustAgree h = eq-eqb x y h
+  plain-agrees (MeanUp apart) h = refl
+  plain-agrees (MeanDown apart) h = refl
+  plain-agrees AnyMeanUp h = refl
+
+  pub near-plain : (r : Rule) → near r x y ≡ true → Near r x y
+  near-plain MustAgree t = tt
+  near-plain (MeanUp apart) t = let (a, b) = both _ _ t in (leb-true _ _ a, leb-true _ _ b)
+  near-plain (MeanDown apart) t = let (a, b) = both _ _ t in (leb-true _ _ a, leb-true _ _ b)
+  near-plain AnyMeanUp t = tt
+
+  pub plain-near : (r : Rule) → Near r x y → near r x y ≡ true
+  plain-near MustAgree h = refl
+  plain-near (MeanUp apart) h = rw (le-leb _ _ (h .0), le-leb _ _ (h .1))
+  plain-near (MeanDown apart) h = rw (le-leb _ _ (h .0), le-leb _ _ (h .1))
+  plain-near AnyMeanUp h = refl
+
+  -- the mean of two readings lies between them, its odd half up or down
+  pub mean-between : (r : Rule) → Agree r x y → Between x y (joinedNumber r x y)
+  mean-between r h =
+      elim (decLe x y) [
+        | yes l ↦ inl (rising r h l)
+        | no g ↦ inr (falling r h (omega arith))
+      ]
+    where
+      rising : (r : Rule) → Agree r x y → x ≤ y → (x ≤ joinedNumber r x y) × (joinedNumber r x y ≤ y)
+      rising MustAgree h l = (omega arith, omega arith)
+      rising (MeanUp apart) h l = (omega arith, omega arith)
+      rising (MeanDown apart) h l = (omega arith, omega arith)
+      rising AnyMeanUp h l = (omega arith, omega arith)
+
+      falling : (r : Rule) → Agree r x y → y ≤ x → (y ≤ joinedNumber r x y) × (joinedNumber r x y ≤ x)
+      falling MustAgree h l = (omega arith, omega arith)
+      falling (MeanUp apart) h l = (omega arith, omega arith)
+      falling (MeanDown apart) h l = (omega arith, omega arith)
+      falling AnyMeanUp h l = (omega arith, omega arith)
+
+-- what lies between two numbers of a range lies in it
+pub between-range : (r : Range) (x y n : ℕ) → In r x → In r y → Between x y n → In r n
+between-range r x y n a b = ⊎-elim (λ h. (omega (arith, a .0, h .0), omega (arith, b .1, h .1))) (λ h. (omega (arith, b .0, h .0), omega (arith, a .1, h .1)))
