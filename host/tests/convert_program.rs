@@ -136,7 +136,8 @@ fn thousands_of_conversions() {
     }
 }
 
-/// Every length of the output that the program lends, for every number of axles, both ways.
+/// Every length of the output up to one that is longer than any vehicle, for every number of axles,
+/// both ways.
 #[test]
 fn outputs_of_every_length() {
     let seed = seed(0xc0b7_1002);
@@ -147,10 +148,10 @@ fn outputs_of_every_length() {
             let light = vehicle_of(&mut random, 1, Spread::Wide, axles);
             let file = vehicle_bytes(&VehicleWords { version: other_version(wanted), ..light });
             let to = wanted.to_le_bytes()[0];
-            (0..=MOST_BYTES).for_each(|room| script.convert(to, &file, room));
+            (0..=LONGEST_OUTPUT).for_each(|room| script.convert(to, &file, room));
         }
         assert!(script.bytes.len() < SPACE, "{} bytes", script.bytes.len());
-        assert_eq!(answered(&script, "convert "), 16 * (MOST_BYTES as u64 + 1));
+        assert_eq!(answered(&script, "convert "), 16 * (LONGEST_OUTPUT as u64 + 1));
         agree(&script, &format!("TBR_SEED={seed}, to {wanted}"));
     }
 }
@@ -243,7 +244,7 @@ fn any_bytes_as_a_vehicle() {
     while script.bytes.len() < 200_000 {
         let file = any_bytes(&mut random, b"TBV", 120);
         for wanted in [1, 2] {
-            script.convert(wanted, &file, random.below(MOST_BYTES + 1));
+            script.convert(wanted, &file, random.below(LONGEST_OUTPUT + 1));
         }
     }
     agree(&script, &format!("TBR_SEED={seed}"));

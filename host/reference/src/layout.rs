@@ -1,6 +1,6 @@
 //! The survey record: sixteen words, and for each kind and section which of them are used, within
 //! which limits, and which of them wear. What is used by neither is 0. And the versions of both
-//! files.
+//! files, and a survey's bytes.
 
 use crate::crescent;
 
@@ -178,6 +178,15 @@ pub fn wears(words: &Words, word: usize) -> bool {
         _ => false,
     };
     lost_area || word == DEAD_LOAD || is_rot(words, word)
+}
+
+/// The file of these records in this version, as they stand.
+pub fn survey_bytes_of(version: u16, records: &[Words]) -> Vec<u8> {
+    let mut bytes = b"TBR".to_vec();
+    bytes.extend(version.to_le_bytes());
+    bytes.push(u8::try_from(records.len()).expect("a count of one byte"));
+    bytes.extend(records.iter().flatten().flat_map(|word| word.to_le_bytes()));
+    bytes
 }
 
 /// Where a record stands: "by kind, then span, then spacing, each rising". A cross beam's spacing

@@ -1,11 +1,11 @@
 //! A script of calls on a session for the program `cases`, with the answers by the documents.
 
-use crate::{between, convert, judge, reader, yard};
+use crate::{between, convert, join, judge, reader, yard};
 use crate::{Answer, Judged, Member, Passing, Rated, Refused, Vehicle};
 use std::fmt::Write;
 
 /// The program takes scripts that are shorter than this.
-pub const SPACE: usize = 262_144;
+pub const SPACE: usize = 393_216;
 
 /// The most entries of a list that the program lends for a yard.
 const MOST_ANSWERS: usize = 40;
@@ -13,8 +13,8 @@ const MOST_ANSWERS: usize = 40;
 /// The most entries of a list of numbers that it lends.
 const MOST_ENTRIES: usize = 160;
 
-/// The most bytes of a buffer that it lends.
-pub const MOST_BYTES: usize = 160;
+/// The most bytes of a buffer that it lends: more than the longest survey has, 6 + 32 × 64.
+pub const MOST_BYTES: usize = 2100;
 
 /// What each byte of a lent buffer holds.
 const KNOWN_BYTE: u8 = 0xee;
@@ -237,11 +237,24 @@ impl Script {
     pub fn convert(&mut self, wanted: u8, file: &[u8], room: usize) {
         let body = [&[wanted], &number(room)[..], file].concat();
         self.step(b'C', body.len(), &body);
+        self.written("convert", room, convert(file, wanted.into(), room));
+    }
+
+    /// Joins two surveys of one bridge with a buffer of so many bytes; the whole buffer is printed as
+    /// it is then. The call needs no session, and changes none.
+    pub fn join(&mut self, first: &[u8], second: &[u8], room: usize) {
+        let body = [&number(room), &number(first.len()), first, second].concat();
+        self.step(b'M', body.len(), &body);
+        self.written("join", room, join(first, second, room));
+    }
+
+    /// The answer of a call that writes into a lent buffer, and the buffer as it is then.
+    fn written(&mut self, call: &str, room: usize, answer: Result<Vec<u8>, Refused>) {
         if room > MOST_BYTES {
             return self.print("no buffer is so long");
         }
         let mut buffer = vec![KNOWN_BYTE; room];
-        let answer = match convert(file, wanted.into(), room) {
+        let answer = match answer {
             Ok(bytes) => {
                 let written = bytes.len();
                 fill(&mut buffer, bytes);
@@ -249,7 +262,7 @@ impl Script {
             }
             Err(fault) => refused(fault.number, fault.place),
         };
-        self.print(&format!("convert {answer}"));
+        self.print(&format!("{call} {answer}"));
         let hex: String = buffer.iter().map(|byte| format!("{byte:02x}")).collect();
         self.print(format!("bytes {hex}").trim_end());
     }

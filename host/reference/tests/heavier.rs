@@ -3,7 +3,6 @@
 
 use reference::generate::*;
 use reference::layout::*;
-use reference::script::MOST_BYTES;
 use reference::{convert, judge, reader, yard, Axle, Refused, Vehicle};
 
 /// Version 2: class 0, track 190, 70,000 kgf and 370 cm behind it 3000 kgf.
@@ -293,7 +292,7 @@ fn outputs_of_every_length() {
     for (wanted, count) in VERSIONS.into_iter().flat_map(|v| (1..=16).map(move |n| (v, n))) {
         let sound = file(other_version(wanted), &row(count));
         let least = length(wanted, count);
-        for room in 0..=MOST_BYTES {
+        for room in 0..=LONGEST_OUTPUT {
             let answer = converted(wanted, &sound, room);
             let expected = if room < least { Err((14, 0)) } else { Ok(file(wanted, &row(count))) };
             assert_eq!(answer, expected, "to {wanted}, {count} axles, {room} bytes");

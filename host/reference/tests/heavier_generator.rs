@@ -2,7 +2,6 @@
 //! refused for what it names.
 
 use reference::generate::*;
-use reference::script::MOST_BYTES;
 use reference::{convert, reader};
 use std::collections::BTreeMap;
 
@@ -53,7 +52,7 @@ fn sound_conversions_are_taken() {
         let Conversion { wanted, file, room } = sound_conversion(&mut random, round);
         assert_eq!(usize::from(wanted), round % 2 + 1);
         let bytes = convert(&file, wanted.into(), room).expect("a sound conversion");
-        assert!(room <= MOST_BYTES, "a buffer of {room} bytes");
+        assert!(room <= LONGEST_OUTPUT, "a buffer of {room} bytes");
         longer += u32::from(room > bytes.len());
     }
     assert!((500..1500).contains(&longer), "{longer} outputs are longer than what is written");

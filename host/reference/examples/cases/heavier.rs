@@ -3,10 +3,10 @@
 
 use crate::records::*;
 use reference::generate::{
-    joined, length, with_version, AxleWords, VehicleWords, HEAVY_EDGES, NO_WEIGHTS,
+    joined, length, with_version, AxleWords, VehicleWords, HEAVY_EDGES, LONGEST_OUTPUT, NO_WEIGHTS,
 };
 use reference::layout::*;
-use reference::script::{Script, MOST_BYTES};
+use reference::script::Script;
 
 const TO_HEAVY: u8 = 2;
 const TO_LIGHT: u8 = 1;
@@ -209,9 +209,9 @@ fn there_and_back(script: &mut Script) {
             script.convert(TO_LIGHT, &heavy, light.len());
         }
     }
-    script.title("outputs of the most bytes");
-    script.convert(TO_HEAVY, &light_l(), MOST_BYTES);
-    script.convert(TO_LIGHT, &heavy_l(), MOST_BYTES);
+    script.title("outputs longer than any vehicle");
+    script.convert(TO_HEAVY, &light_l(), LONGEST_OUTPUT);
+    script.convert(TO_LIGHT, &heavy_l(), LONGEST_OUTPUT);
 }
 
 /// 2 where the version is the wrong one for the way asked, before 3 and 1, behind 1 for a short

@@ -1,7 +1,6 @@
 //! Files that are refused: damaged in every way that has a number, at any place, and any bytes.
 
 use super::order::{some_order, with_version, NO_VERSIONS};
-use super::survey::survey_bytes_of;
 use super::vehicle::{vehicle, vehicle_bytes, VehicleWords, NO_WEIGHTS};
 use super::{Random, Spread};
 use crate::layout::*;

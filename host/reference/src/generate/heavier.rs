@@ -9,7 +9,6 @@ use super::vehicle::{
 use super::{full_survey, survey, survey_bytes, Damaged, Random, Spread};
 use crate::layout::{axle_bytes, heaviest, HEAVY_AXLES, LIGHT_AXLES};
 use crate::reader::{File, Refused, VEHICLE_HEADER};
-use crate::script::MOST_BYTES;
 
 /// The other of the two versions.
 pub fn other_version(version: u16) -> u16 {
@@ -68,6 +67,9 @@ pub fn length(version: u16, axles: usize) -> usize {
     VEHICLE_HEADER + axle_bytes(version) * axles
 }
 
+/// The longest output that is asked for: no vehicle is so long.
+pub const LONGEST_OUTPUT: usize = 160;
+
 /// A vehicle that goes to the version that is wanted, so many axles.
 fn convertible(random: &mut Random, wanted: u16, axles: usize) -> VehicleWords {
     match wanted {
@@ -78,8 +80,8 @@ fn convertible(random: &mut Random, wanted: u16, axles: usize) -> VehicleWords {
 
 /// The output is as long as it has to be, or longer.
 fn enough(random: &mut Random, least: usize) -> usize {
-    let any = least + random.below(MOST_BYTES + 1 - least);
-    *random.pick(&[least, least, least + 1, least + 2, MOST_BYTES, any])
+    let any = least + random.below(LONGEST_OUTPUT + 1 - least);
+    *random.pick(&[least, least, least + 1, least + 2, LONGEST_OUTPUT, any])
 }
 
 /// A conversion that is taken; the versions take turns by the number.
@@ -99,8 +101,8 @@ pub struct DamagedConversion {
 
 /// An output of any length, often too short: what comes before 14 comes whatever the output.
 fn any_room(random: &mut Random) -> usize {
-    let any = random.below(MOST_BYTES + 1);
-    *random.pick(&[0, 0, VEHICLE_HEADER, any, MOST_BYTES])
+    let any = random.below(LONGEST_OUTPUT + 1);
+    *random.pick(&[0, 0, VEHICLE_HEADER, any, LONGEST_OUTPUT])
 }
 
 /// A weight that version 1 has no room for.

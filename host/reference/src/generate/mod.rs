@@ -16,6 +16,7 @@ mod vehicle;
 mod worse;
 mod yard;
 
+pub use crate::layout::survey_bytes_of;
 pub use between::{
     bearing_survey, damaged_pairs, file_as_they_stand, ordered_pair, some_entries,
     some_pair_damage, survey_between, vehicle_near, worn, DamagedPair,
@@ -27,7 +28,7 @@ pub use damage::{any_bytes, some_damage};
 pub use disorder::{disorder, Disorder};
 pub use heavier::{
     damaged_conversions, length, other_version, some_conversion, sound_conversion, wrong_lengths,
-    wrong_weights, Conversion, DamagedConversion,
+    wrong_weights, Conversion, DamagedConversion, LONGEST_OUTPUT,
 };
 pub use order::{
     alike_survey, any_survey, full_survey_file, in_order, misplace, misplaced_surveys, one_before,
@@ -35,7 +36,7 @@ pub use order::{
 };
 pub use places::{damaged_surveys, damaged_vehicles, Damaged};
 pub use random::Random;
-pub use survey::{full_survey, survey, survey_bytes, survey_bytes_of, Spread};
+pub use survey::{full_survey, survey, survey_bytes, Spread};
 pub use tie::at_a_tie;
 pub use vehicle::{
     fitting_vehicle, vehicle, vehicle_bytes, vehicle_of, AxleWords, VehicleWords, HEAVY_EDGES,

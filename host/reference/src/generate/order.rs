@@ -2,7 +2,7 @@
 //! versions that no file has.
 
 use super::damage::{damage_survey, SurveyDamage};
-use super::survey::{full_survey, member, survey, survey_bytes, survey_bytes_of};
+use super::survey::{full_survey, member, survey, survey_bytes};
 use super::vehicle::{vehicle, vehicle_bytes, vehicle_of, VERSIONS};
 use super::{Damaged, Random, Spread};
 use crate::layout::*;

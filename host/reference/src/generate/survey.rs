@@ -90,15 +90,6 @@ pub fn full_survey(random: &mut Random, spread: Spread) -> Vec<Words> {
     (0..64).map(|i| member(random, spread, i % LAST_KIND + 1)).collect()
 }
 
-/// The file of these members in this version.
-pub fn survey_bytes_of(version: u16, members: &[Words]) -> Vec<u8> {
-    let mut bytes = b"TBR".to_vec();
-    bytes.extend(version.to_le_bytes());
-    bytes.push(u8::try_from(members.len()).expect("a count of one byte"));
-    bytes.extend(members.iter().flatten().flat_map(|word| word.to_le_bytes()));
-    bytes
-}
-
 /// The file of these members, in version 1, which has them as they come.
 pub fn survey_bytes(members: &[Words]) -> Vec<u8> {
     survey_bytes_of(FREE_ORDER, members)
