@@ -60,8 +60,11 @@ struct Form {
     each: fn(u16) -> usize,
 }
 
-const SURVEY: Form = Form { mark: b"TBR", header: 6, most: 64, each: |_| 32 };
+const SURVEY: Form = Form { mark: b"TBR", header: SURVEY_HEADER, most: 64, each: |_| 32 };
 const VEHICLE: Form = Form { mark: b"TBV", header: VEHICLE_HEADER, most: 16, each: axle_bytes };
+
+/// The bytes of a survey before its records; the last of them is their count.
+pub const SURVEY_HEADER: usize = 6;
 
 /// The bytes of a vehicle before its axles; the last of them is their count.
 pub const VEHICLE_HEADER: usize = 9;

@@ -1,6 +1,9 @@
 //! Heavier axles: what the request could be taken for. The right reading is worked a second time
 //! here, and the generated files, yards and conversions must show each wrong one.
 
+mod readings;
+
+use readings::hold;
 use reference::generate::*;
 use reference::{convert, reader, yard::vehicles, Refused, Vehicle};
 
@@ -226,27 +229,6 @@ fn converted(wrong: Option<Wrong>, conversion: &Conversion) -> Result<Vec<u8>, F
         _ => heavy.or(short),
     };
     fault.map_or(Ok(bytes), Err)
-}
-
-/// How often each wrong reading differs from the right one, which agrees with the reference.
-fn hold<T, A: PartialEq + std::fmt::Debug>(
-    all: &[T],
-    wrongs: &[Wrong],
-    reference: impl Fn(&T) -> A,
-    reading: impl Fn(Option<Wrong>, &T) -> A,
-) {
-    let mut seen = vec![0; wrongs.len()];
-    for (i, one) in all.iter().enumerate() {
-        let answer = reference(one);
-        assert_eq!(reading(None, one), answer, "number {i}");
-        for (seen, &wrong) in seen.iter_mut().zip(wrongs) {
-            *seen += u32::from(reading(Some(wrong), one) != answer);
-        }
-    }
-    println!("{seen:?}");
-    for (seen, wrong) in seen.iter().zip(wrongs) {
-        assert!(*seen > 15, "{wrong:?} is seen {seen} times of {}", all.len());
-    }
 }
 
 fn fault(refused: Refused) -> Fault {

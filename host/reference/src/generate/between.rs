@@ -104,12 +104,17 @@ pub fn file_as_they_stand(random: &mut Random, records: &[Words]) -> Vec<u8> {
     survey_bytes_of(version_of(random, records), records)
 }
 
-fn versions_of(random: &mut Random, ends: &[Vec<Words>; 2]) -> [u16; 2] {
+pub(super) fn versions_of(random: &mut Random, ends: &[Vec<Words>; 2]) -> [u16; 2] {
     ends.each_ref().map(|records| version_of(random, records))
 }
 
 /// The files of two surveys in these versions and their refusal.
-fn pair(ends: &[Vec<Words>; 2], versions: [u16; 2], number: u64, place: u64) -> DamagedPair {
+pub(super) fn pair(
+    ends: &[Vec<Words>; 2],
+    versions: [u16; 2],
+    number: u64,
+    place: u64,
+) -> DamagedPair {
     let [first, second] = [0, 1].map(|end| survey_bytes_of(versions[end], &ends[end]));
     DamagedPair { first, second, number, place }
 }
@@ -146,7 +151,7 @@ fn spoil_later(random: &mut Random, ends: &mut [Vec<Words>; 2], end: usize, i: u
 
 /// A record of one end that no survey has, in each way; often the second survey's first record is
 /// of another bridge, or what comes later is wrong too.
-fn refused(random: &mut Random, sound: &[Vec<Words>; 2], i: usize) -> Vec<DamagedPair> {
+pub(super) fn refused(random: &mut Random, sound: &[Vec<Words>; 2], i: usize) -> Vec<DamagedPair> {
     let mut all = Vec::new();
     for end in [0, 1] {
         for damage in SurveyDamage::ALL {
@@ -167,7 +172,11 @@ fn refused(random: &mut Random, sound: &[Vec<Words>; 2], i: usize) -> Vec<Damage
 
 /// A record of one end before its predecessor, in each way: 16 in its own turn, which is before the
 /// second survey's refusals and before 15.
-fn misplaced(random: &mut Random, sound: &[Vec<Words>; 2], i: usize) -> Vec<DamagedPair> {
+pub(super) fn misplaced(
+    random: &mut Random,
+    sound: &[Vec<Words>; 2],
+    i: usize,
+) -> Vec<DamagedPair> {
     let mut all = Vec::new();
     for end in [0, 1] {
         for way in Misplaced::ALL {
@@ -240,6 +249,26 @@ fn damage(random: &mut Random, ends: &mut [Vec<Words>; 2]) {
     }
 }
 
+/// The files of two surveys, often with records that no survey has, or with other bytes.
+pub(super) fn some_files(
+    random: &mut Random,
+    mut ends: [Vec<Words>; 2],
+    ordered: bool,
+) -> [Vec<u8>; 2] {
+    if random.once_in(3) {
+        damage(random, &mut ends);
+    }
+    // Free order seldom has the version of the order: it is refused then.
+    let seldom = if ordered { 2 } else { 6 };
+    let version = |random: &mut Random| if random.once_in(seldom) { IN_ORDER } else { FREE_ORDER };
+    let mut files = ends.map(|records| survey_bytes_of(version(random), &records));
+    if random.once_in(4) {
+        let end = random.below(2);
+        spoil(random, &mut files[end]);
+    }
+    files
+}
+
 /// Any way; often one that few kinds have.
 fn some_way(random: &mut Random, first: &Words) -> Disorder {
     match first[KIND] {
@@ -266,17 +295,5 @@ pub fn some_pair_damage(random: &mut Random, most: usize) -> [Vec<u8>; 2] {
             disorder(random, one, other, way);
         }
     }
-    let mut ends = [first, second];
-    if random.once_in(3) {
-        damage(random, &mut ends);
-    }
-    // Free order seldom has the version of the order: it is refused then.
-    let seldom = if ordered { 2 } else { 6 };
-    let version = |random: &mut Random| if random.once_in(seldom) { IN_ORDER } else { FREE_ORDER };
-    let mut files = ends.map(|records| survey_bytes_of(version(random), &records));
-    if random.once_in(4) {
-        let end = random.below(2);
-        spoil(random, &mut files[end]);
-    }
-    files
+    some_files(random, [first, second], ordered)
 }

@@ -31,7 +31,7 @@ impl Disorder {
 }
 
 /// The used numbers of a record that are wanted.
-fn numbers(words: &Words, wanted: impl Fn(usize) -> bool) -> Vec<Limit> {
+pub(super) fn numbers(words: &Words, wanted: impl Fn(usize) -> bool) -> Vec<Limit> {
     used(words[KIND], words[SECTION]).filter(|limit| wanted(limit.0)).copied().collect()
 }
 
@@ -55,7 +55,7 @@ fn close_rot(random: &mut Random, first: &mut Words, second: &mut Words) -> bool
 }
 
 /// The values that a number of a sound record may have beside its others.
-fn room(words: &Words, (word, least, greatest): Limit) -> (u16, u16) {
+pub(super) fn room(words: &Words, (word, least, greatest): Limit) -> (u16, u16) {
     let (truss, joint) = (in_truss(words[KIND]), is_joint(words[KIND]));
     match word {
         SPAN if truss => (least.max(words[FROM_SUPPORT] + 1), greatest),
@@ -74,8 +74,9 @@ fn other(random: &mut Random, value: u16, (least, greatest): (u16, u16)) -> Opti
     (!others.is_empty()).then(|| *random.pick(&others))
 }
 
-fn number(random: &mut Random, second: &mut Words) -> bool {
-    let limit = *random.pick(&numbers(second, |word| !wears(second, word)));
+/// Another value in one of these numbers.
+pub(super) fn number(random: &mut Random, second: &mut Words, limits: &[Limit]) -> bool {
+    let limit = *random.pick(limits);
     let another = other(random, second[limit.0], room(second, limit));
     second[limit.0] = another.unwrap_or(second[limit.0]);
     another.is_some()
@@ -136,7 +137,10 @@ pub fn disorder(random: &mut Random, first: &mut Words, second: &mut Words, way:
     match way {
         Disorder::Sounder => sounder(random, first, second),
         Disorder::CloseRot => close_rot(random, first, second),
-        Disorder::Number => number(random, second),
+        Disorder::Number => {
+            let kept = numbers(second, |word| !wears(second, word));
+            number(random, second, &kept)
+        }
         Disorder::Species => species(random, second),
         Disorder::Section => section(random, second),
         Disorder::Kind => kind(random, second),

@@ -5,8 +5,11 @@ mod border;
 mod brink;
 mod corners;
 mod damage;
+mod disagree;
 mod disorder;
 mod heavier;
+mod join;
+mod measured;
 mod order;
 mod places;
 mod random;
@@ -25,18 +28,21 @@ pub use border::at_seven_stringers;
 pub use brink::at_the_limit;
 pub use corners::corners;
 pub use damage::{any_bytes, some_damage};
+pub use disagree::{disagree, Disagreement};
 pub use disorder::{disorder, Disorder};
 pub use heavier::{
     damaged_conversions, length, other_version, some_conversion, sound_conversion, wrong_lengths,
     wrong_weights, Conversion, DamagedConversion, LONGEST_OUTPUT,
 };
+pub use join::{damaged_joins, some_join, sound_join, survey_length, DamagedJoin, Join};
+pub use measured::{apart_in_one, crossing, measured, two_measured, Apart};
 pub use order::{
     alike_survey, any_survey, full_survey_file, in_order, misplace, misplaced_surveys, one_before,
     some_version, survey_file, with_version, wrong_versions, Misplaced, NO_VERSIONS,
 };
 pub use places::{damaged_surveys, damaged_vehicles, Damaged};
 pub use random::Random;
-pub use survey::{full_survey, survey, survey_bytes, Spread};
+pub use survey::{full_survey, of_each_kind, survey, survey_bytes, Spread};
 pub use tie::at_a_tie;
 pub use vehicle::{
     fitting_vehicle, vehicle, vehicle_bytes, vehicle_of, AxleWords, VehicleWords, HEAVY_EDGES,

@@ -3,6 +3,7 @@
 use super::Random;
 use crate::crescent::last_depth;
 use crate::layout::*;
+use std::collections::BTreeMap;
 
 /// How a file's numbers are spread.
 #[derive(Clone, Copy, PartialEq, Eq)]
@@ -83,6 +84,16 @@ pub fn survey(random: &mut Random, spread: Spread, count: usize) -> Vec<Words> {
         members.push(member(random, spread, kind));
     }
     members
+}
+
+/// A member of each kind with each of its sections.
+pub fn of_each_kind(random: &mut Random, spread: Spread) -> Vec<Words> {
+    let mut met = BTreeMap::new();
+    while met.len() < (1..=LAST_KIND).map(|kind| sections(kind).len()).sum() {
+        let words = survey(random, spread, 1)[0];
+        met.entry((words[KIND], words[SECTION])).or_insert(words);
+    }
+    met.into_values().collect()
 }
 
 /// 64 members of all kinds in turn.
