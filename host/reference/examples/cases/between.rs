@@ -46,12 +46,6 @@ fn change(script: &mut Script, record: Words, word: usize, value: u16) {
     between(script, &[record], &[with(record, &[(word, value)])]);
 }
 
-/// Is this the first kind with its section, and the first section of its kind?
-fn firsts(kind: u16, code: u16) -> (bool, bool) {
-    let first_kind = kinds().find(|&(_, other)| other == code).map(|(kind, _)| kind);
-    (first_kind == Some(kind), sections(kind)[0] == code)
-}
-
 /// Each wearing word one greater, then one less; each other word one greater or one less, those of
 /// a section with its first kind and those of a kind with its first section.
 fn words(script: &mut Script, kind: u16, code: u16) {
@@ -64,9 +58,7 @@ fn words(script: &mut Script, kind: u16, code: u16) {
         change(script, record, word, record[word] + 1);
         change(script, record, word, record[word] - 1);
     }
-    let (first_kind, first_section) = firsts(kind, code);
-    let first = |word| if (S1..=S6).contains(&word) { first_kind } else { first_section };
-    for word in kept.into_iter().filter(|&word| first(word)) {
+    for word in kept.into_iter().filter(|&word| is_first(kind, code, word)) {
         let less = record[word] > 1 && (word + usize::from(kind)) % 2 == 0;
         change(script, record, word, if less { record[word] - 1 } else { record[word] + 1 });
     }

@@ -8,6 +8,7 @@ mod crescents;
 mod document;
 mod edges;
 mod heavier;
+mod joined;
 mod margins;
 mod order;
 mod records;
@@ -34,6 +35,7 @@ fn script() -> Script {
     between::cases(&mut script);
     order::cases(&mut script);
     heavier::cases(&mut script);
+    joined::cases(&mut script);
     script
 }
 

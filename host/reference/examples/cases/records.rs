@@ -9,6 +9,16 @@ pub fn kinds() -> impl Iterator<Item = (u16, u16)> {
     (1..=LAST_KIND).flat_map(|kind| sections(kind).iter().map(move |&code| (kind, code)))
 }
 
+/// Is this a section's word with the first kind that has the section, or a kind's with its first
+/// section? So each is met once.
+pub fn is_first(kind: u16, code: u16, word: usize) -> bool {
+    if (S1..=S6).contains(&word) {
+        kinds().find(|&(_, other)| other == code) == Some((kind, code))
+    } else {
+        sections(kind)[0] == code
+    }
+}
+
 fn usual_number(kind: u16, code: u16, word: usize) -> u16 {
     match (word, code) {
         (SPACING, _) if kind == CLOSE_STRINGER => 60,
