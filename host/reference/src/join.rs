@@ -27,8 +27,8 @@ const OF_SIZE: Rule = Rule::Mean { apart: 1, half: Half::Down };
 /// "Losses and dead load may differ by any amount."
 const OF_LOAD_OR_LOSS: Rule = Rule::Mean { apart: u16::MAX, half: Half::Up };
 
-/// A section's fields: "log diameter, width and height, c and a, the area of code 4", then rot, then
-/// losses; "tiers, pieces, cuts, dowel type and diameter" must agree.
+/// A section's fields: "log diameter, width and height, c and a, the area of code 4", then rot,
+/// then losses; "tiers, pieces, cuts, dowel type and diameter" must agree.
 fn section_rule(code: u16, word: usize) -> Rule {
     match (code, word) {
         (1 | 5, S1) | (2, S1 | S2) | (3, S3 | S4) | (4, S1) => OF_SIZE,

@@ -240,8 +240,8 @@ impl Script {
         self.written("convert", room, convert(file, wanted.into(), room));
     }
 
-    /// Joins two surveys of one bridge with a buffer of so many bytes; the whole buffer is printed as
-    /// it is then. The call needs no session, and changes none.
+    /// Joins two surveys of one bridge with a buffer of so many bytes; the whole buffer is printed
+    /// as it is then. The call needs no session, and changes none.
     pub fn join(&mut self, first: &[u8], second: &[u8], room: usize) {
         let body = [&number(room), &number(first.len()), first, second].concat();
         self.step(b'M', body.len(), &body);

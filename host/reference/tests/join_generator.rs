@@ -84,7 +84,8 @@ fn hold_mean(joined: &Words, first: &Words, second: &Words, what: &str) {
 fn joined_surveys_are_accepted() {
     const SEED: u64 = 0x0a10_1003;
     let mut random = Random::new(SEED);
-    let (mut versions, mut sections, mut moved) = (BTreeMap::new(), BTreeSet::new(), 0);
+    let (mut versions, mut sections) = (BTreeMap::new(), BTreeSet::new());
+    let (mut moved, mut free) = (0, [0; 2]);
     for round in 0..6000 {
         let what = format!("seed {SEED:#x}, round {round}");
         let members = if round % 100 == 0 { 64 } else { 1 + random.below(5) };
@@ -106,10 +107,15 @@ fn joined_surveys_are_accepted() {
         assert_eq!(with(&call.first, &call.first), Ok(survey_bytes(&first)), "{what}: alike");
         assert!(with(&call.first, &written).is_ok(), "{what}: the first with the joined");
         *versions.entry((one, other)).or_insert(0) += 1;
+        if one != other {
+            let end = usize::from(one == IN_ORDER);
+            free[end] += u32::from(in_order([&first, &second][end]) != *[&first, &second][end]);
+        }
     }
     assert!(versions.len() == 4 && versions.values().all(|&times| times == 1500), "{versions:?}");
     assert_eq!(sections.len(), 12, "{sections:?}");
     assert!(moved > 5000, "{moved} records are of neither");
+    assert!(free.iter().all(|&times| times > 50), "{free:?} in free order beside an order");
 }
 
 /// Both in order, and their joined records are not: they have version 1 alone.

@@ -46,15 +46,13 @@ fn any_room(random: &mut Random) -> usize {
 const VERSIONS: [[u16; 2]; 4] =
     [[FREE_ORDER; 2], [FREE_ORDER, IN_ORDER], [IN_ORDER, FREE_ORDER], [IN_ORDER; 2]];
 
-/// A join of so many members that is taken; the pairs of versions take turns by the number. Free
-/// order is seldom that of the other version.
+/// A join of so many members that is taken; the pairs of versions take turns by the number.
 pub fn sound_join(random: &mut Random, turn: usize, members: usize) -> Join {
     let versions = VERSIONS[turn % VERSIONS.len()];
     let spread = *random.pick(&[Spread::Wide, Spread::Usual]);
-    let ordered = versions.contains(&IN_ORDER) || random.once_in(4);
     let ends = match random.below(8) {
         0 if members == 2 => crossing(random),
-        _ => two_measured(random, spread, members, ordered),
+        _ => two_measured(random, spread, members, versions),
     };
     let [first, second] = [0, 1].map(|end| survey_bytes_of(versions[end], &ends[end]));
     Join { first, second, room: enough(random, survey_length(members)) }
@@ -98,7 +96,7 @@ fn counted(random: &mut Random, sound: &[Vec<Words>; 2], i: usize) -> Vec<Damage
 
 /// Files whose header is at fault: short, its mark or version, its count, the length.
 fn no_surveys(random: &mut Random) -> Vec<(Vec<u8>, u64)> {
-    let [sound, _] = two_measured(random, Spread::Wide, 2, true);
+    let [sound, _] = two_measured(random, Spread::Wide, 2, [IN_ORDER; 2]);
     let sound = survey_bytes_of(*random.pick(&[FREE_ORDER, IN_ORDER]), &sound);
     let with = |at: usize, byte: u8| [&sound[..at], &[byte], &sound[at + 1..]].concat();
     let cut = |length: usize| sound[..length].to_vec();
@@ -115,7 +113,7 @@ fn no_surveys(random: &mut Random) -> Vec<(Vec<u8>, u64)> {
 /// Each of these as the first survey, whatever the second, and as the second of a sound first one.
 fn headers(random: &mut Random) -> Vec<DamagedPair> {
     let files = no_surveys(random);
-    let [sound, _] = two_measured(random, Spread::Wide, 3, false);
+    let [sound, _] = two_measured(random, Spread::Wide, 3, [FREE_ORDER; 2]);
     let sound = survey_bytes(&sound);
     let mut all = Vec::new();
     for (file, number) in &files {
@@ -140,11 +138,12 @@ fn too_short(random: &mut Random) -> Vec<DamagedJoin> {
     all
 }
 
-/// Joins that are refused: two surveys of 64 members in each way at each place, headers, and outputs
-/// that are too short.
+/// Joins that are refused: two surveys of 64 members in each way at each place, headers, and
+/// outputs that are too short.
 pub fn damaged_joins(random: &mut Random) -> Vec<DamagedJoin> {
     let members = full_survey(random, Spread::Wide);
-    let both = [true, false].map(|ordered| two_measured_of(random, &members, ordered));
+    let both =
+        [IN_ORDER, FREE_ORDER].map(|version| two_measured_of(random, &members, [version; 2]));
     let mut pairs = headers(random);
     for i in 0..members.len() {
         let sound = random.pick(&both);
@@ -171,7 +170,8 @@ pub fn damaged_joins(random: &mut Random) -> Vec<DamagedJoin> {
 pub fn some_join(random: &mut Random, most: usize) -> Join {
     let (count, ordered) = (1 + random.below(most), !random.once_in(3));
     let spread = *random.pick(&[Spread::Wide, Spread::Usual]);
-    let [mut first, mut second] = two_measured(random, spread, count, ordered);
+    let versions = [if ordered { IN_ORDER } else { FREE_ORDER }; 2];
+    let [mut first, mut second] = two_measured(random, spread, count, versions);
     for (one, other) in first.iter_mut().zip(&mut second) {
         if random.once_in(count + 1) {
             let way = *random.pick(&Disagreement::ALL);

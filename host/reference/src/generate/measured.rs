@@ -44,39 +44,44 @@ fn measured_in_order(random: &mut Random, first: &[Words]) -> Vec<Words> {
     second
 }
 
-/// Two surveys with these members; in order, both are.
+/// The records as the other measurer has them, in whatever order.
+fn measured_freely(random: &mut Random, first: &[Words]) -> Vec<Words> {
+    first.iter().map(|record| measured(random, record)).collect()
+}
+
+/// Two surveys with these members, each in the order that its version has. Where one alone has an
+/// order the other need not stand so.
 pub(super) fn two_measured_of(
     random: &mut Random,
     members: &[Words],
-    ordered: bool,
+    versions: [u16; 2],
 ) -> [Vec<Words>; 2] {
-    let (first, second) = match ordered {
-        true => {
-            let first = in_order(members);
-            let second = measured_in_order(random, &first);
-            (first, second)
-        }
-        false => {
-            let second = members.iter().map(|record| measured(random, record)).collect();
-            (members.to_vec(), second)
-        }
+    let first = if versions == [FREE_ORDER; 2] { members.to_vec() } else { in_order(members) };
+    let second = match versions {
+        [IN_ORDER, IN_ORDER] => measured_in_order(random, &first),
+        _ => measured_freely(random, &first),
     };
-    if random.once_in(2) {
+    let exchanged = match versions {
+        [FREE_ORDER, IN_ORDER] => true,
+        [IN_ORDER, FREE_ORDER] => false,
+        _ => random.once_in(2),
+    };
+    if exchanged {
         [second, first]
     } else {
         [first, second]
     }
 }
 
-/// Two surveys of so many members; in order, both are.
-pub fn two_measured(
+/// Two surveys of so many members, in the same way.
+pub(super) fn two_measured(
     random: &mut Random,
     spread: Spread,
     count: usize,
-    ordered: bool,
+    versions: [u16; 2],
 ) -> [Vec<Words>; 2] {
     let members = any_survey(random, spread, count);
-    two_measured_of(random, &members, ordered)
+    two_measured_of(random, &members, versions)
 }
 
 /// Two surveys of two members, both in order, whose joined records are not: the spans come to the
@@ -110,7 +115,7 @@ pub struct Apart {
     pub number: Option<u64>,
 }
 
-/// By how much a number may be tried to differ: each difference up to the first too great, or a few;
+/// The differences that are tried of a number: each up to the first that is too great, or a few;
 /// and as far as its range goes.
 fn steps(rule: Rule, farthest: u16) -> Vec<u16> {
     let most = match rule {

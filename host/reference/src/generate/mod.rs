@@ -35,7 +35,7 @@ pub use heavier::{
     wrong_weights, Conversion, DamagedConversion, LONGEST_OUTPUT,
 };
 pub use join::{damaged_joins, some_join, sound_join, survey_length, DamagedJoin, Join};
-pub use measured::{apart_in_one, crossing, measured, two_measured, Apart};
+pub use measured::{apart_in_one, crossing, measured, Apart};
 pub use order::{
     alike_survey, any_survey, full_survey_file, in_order, misplace, misplaced_surveys, one_before,
     some_version, survey_file, with_version, wrong_versions, Misplaced, NO_VERSIONS,
