@@ -31,9 +31,11 @@ pub struct Refusal {
     pub file: Which,
     /// The number: 1 length, 2 mark or version, 3 count, 4 kind, 5 species, 6 section code,
     /// 7 a number outside its range, 8 an unused field that is not 0; 15 the second of two surveys
-    /// that is not the first worn as much or more; 16 a member that stands before its predecessor in
-    /// the order of version 2. Of a vehicle that is to be written in another version, which no call
-    /// of this crate does: 14 the output is too short, 17 a weight that version 1 cannot hold.
+    /// that is not the first worn as much or more; 16 a member that stands before its predecessor
+    /// in the order of version 2. Of what no call of this crate does: 17 a weight that version 1
+    /// cannot hold, of a vehicle that is to be written in that version; 18 and 19 the second of two
+    /// surveys that cannot be joined with the first, as what must agree does not, or as sizes are
+    /// too far apart; 14 an output that is too short for either.
     pub number: u64,
     /// The member or axle at fault, from 1; 0 where the fault is in none of them.
     pub place: u64,
@@ -118,12 +120,28 @@ impl Refusal {
             (TOO_SHORT, Which::Vehicle) => {
                 "the output is too short for the file in the other version"
             }
-            (15, Which::Survey) if self.place == 0 => {
-                "the two surveys have different counts of members"
-            }
-            (15, Which::Survey) => {
+            (TOO_SHORT, Which::Survey) => "the output is too short for the joined survey",
+            (_, Which::Survey) => self.meaning_of_two(),
+            _ => NO_WORDS,
+        }
+    }
+
+    /// The same of two surveys of one bridge.
+    fn meaning_of_two(&self) -> &'static str {
+        match (self.number, self.place) {
+            (15 | 18, 0) => "the two surveys have different counts of members",
+            (15, _) => {
                 "the record is not the first survey's with rot, losses and dead load as great or \
-                 greater and all else equal; of closely spaced stringers only the dead load may grow"
+                 greater and all else equal; of closely spaced stringers only the dead load may \
+                 grow"
+            }
+            (18, _) => {
+                "the records differ in what must agree: all but span, spacing, section sizes, \
+                 truss height, losses, dead load and any rot but a deck's"
+            }
+            (19, _) => {
+                "the records are too far apart: spans may differ by 5 cm, spacing, section sizes, \
+                 truss height and rot by 1"
             }
             _ => NO_WORDS,
         }

@@ -164,9 +164,10 @@ fn refusals_14_and_17_in_words() {
     let words = "the output is too short for the file in the other version";
     assert_eq!(short.to_string(), format!("vehicle refused, number 14: {words}"));
     assert_eq!((explain(TRAILER, &short), numbers(TRAILER, &short)), (vec![], vec![]));
-    // A survey has neither.
+    // A survey has no 17, and its 14 is of another output.
     let survey = |number| Refusal { file: Which::Survey, number, place: 0 }.meaning();
-    assert_eq!((survey(14), survey(17)), (survey(9), survey(9)));
+    assert_eq!(survey(17), survey(9));
+    assert_ne!(survey(14), short.meaning());
     let length =
         "its length is not what its version and count say, or it is too short to hold them";
     assert_eq!(refusal(1, 0).meaning(), length);

@@ -112,7 +112,8 @@ fn slices_of_slices() {
 
 #[test]
 fn all_numbers_have_words_of_their_own() {
-    for (file, further) in [(Which::Survey, &[15, 16][..]), (Which::Vehicle, &[14, 17])] {
+    for (file, further) in [(Which::Survey, &[14, 15, 16, 18, 19][..]), (Which::Vehicle, &[14, 17])]
+    {
         let numbers: Vec<u64> = (1..=9).chain(further.iter().copied()).collect();
         let meaning = |number: &u64| Refusal { file, number: *number, place: 1 }.meaning();
         let mut words: Vec<String> = numbers.iter().map(meaning).collect();
@@ -150,6 +151,30 @@ fn two_surveys_that_are_not_of_one_bridge() {
     assert_eq!(out_of_order.meaning(), no_words, "nor has it 16");
     // No field of the record alone is at fault.
     assert_eq!(explain(FOREST_ROAD, &refusal(Which::Survey, 3)), []);
+}
+
+/// 18 and 19 are of two surveys that are to be joined, 14 of the output for the joined one.
+#[test]
+fn two_surveys_that_cannot_be_joined() {
+    let refusal = |number, place| Refusal { file: Which::Survey, number, place };
+    let counts = "survey refused, number 18: the two surveys have different counts of members";
+    assert_eq!(refusal(18, 0).to_string(), counts);
+    let words =
+        "survey refused, number 18 at member 3: the records differ in what must agree: all \
+                 but span, spacing, section sizes, truss height, losses, dead load and any rot but \
+                 a deck's";
+    assert_eq!(refusal(18, 3).to_string(), words);
+    let words = "survey refused, number 19 at member 1: the records are too far apart: spans may \
+                 differ by 5 cm, spacing, section sizes, truss height and rot by 1";
+    assert_eq!(refusal(19, 1).to_string(), words);
+    let words = "survey refused, number 14: the output is too short for the joined survey";
+    assert_eq!(refusal(14, 0).to_string(), words);
+    for number in [18, 19] {
+        // No field of the record alone is at fault, and a vehicle has neither number.
+        assert_eq!(explain(FOREST_ROAD, &refusal(number, 3)), []);
+        let of_vehicle = |number| Refusal { file: Which::Vehicle, number, place: 1 }.meaning();
+        assert_eq!(of_vehicle(number), of_vehicle(9));
+    }
 }
 
 /// The same files judged in several threads, in another order in each: nothing is kept from call to
@@ -309,7 +334,7 @@ fn every_refused_record_has_a_field_at_fault() {
 #[test]
 fn refusals_of_other_bytes_name_nothing() {
     for file in [Which::Survey, Which::Vehicle] {
-        for number in [0, 1, 3, 4, 7, 8, 9, 14, 15, 16, 17, u64::MAX] {
+        for number in [0, 1, 3, 4, 7, 8, 9, 14, 15, 16, 17, 18, 19, u64::MAX] {
             for place in [0, 1, 2, 65, u64::MAX] {
                 let refusal = Refusal { file, number, place };
                 assert_eq!(explain(&[], &refusal), []);
