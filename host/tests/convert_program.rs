@@ -168,14 +168,6 @@ fn no_longer_buffer_is_lent() {
     agree(&script, "long buffers");
 }
 
-/// The bytes that the program prints behind each conversion.
-fn printed_bytes(script: &Script) -> Vec<Vec<u8>> {
-    let printed = programs::printed("cases", &script.bytes);
-    let lines = printed.lines().filter_map(|line| line.strip_prefix("bytes "));
-    let byte = |hex: &str, i: usize| u8::from_str_radix(&hex[i..i + 2], 16).expect("a byte");
-    lines.map(|hex| (0..hex.len()).step_by(2).map(|i| byte(hex, i)).collect()).collect()
-}
-
 /// "there and back gives the same bytes": what the program writes is put to it again.
 #[test]
 fn there_and_back_by_the_programs_own_bytes() {

@@ -76,3 +76,11 @@ pub fn agree(script: &Script, what: &str) {
     }
     assert_eq!(printed.len(), script.text.len(), "{what}");
 }
+
+/// The bytes that the program prints behind each call that fills a buffer.
+pub fn printed_bytes(script: &Script) -> Vec<Vec<u8>> {
+    let printed = programs::printed("cases", &script.bytes);
+    let lines = printed.lines().filter_map(|line| line.strip_prefix("bytes "));
+    let byte = |hex: &str, i: usize| u8::from_str_radix(&hex[i..i + 2], 16).expect("a byte");
+    lines.map(|hex| (0..hex.len()).step_by(2).map(|i| byte(hex, i)).collect()).collect()
+}
