@@ -1,7 +1,7 @@
 // Two measurers: two survey files of one bridge are joined, field by field, into one of version 1.
-pub mod bytes;
-pub mod record;
-pub mod rule;
+mod bytes;
+mod record;
+mod rule;
 
 use bytes::put_head;
 use bytes::put_record;
