@@ -35,9 +35,7 @@ put-head-requires c κs = omega (arith, c .before .before .before .before .befor
 
 -- the output keeps its length
 headed : (c : tie.After-put-head Inv-loop μ-loop) → length (c .put-head .last .0) ≡ length (c .before .before .before .before .before .before .args .out .now)
-headed c =
-    let s = c .before .before .before .before .before .before in
-    rw (c .put-head .ensures) (length-paste (s .args .out .now) 0 (headBytes (c .before .before .count-of .result)) SURVEY-HEADER (omega (arith, s .pre .2)) (omega arith))
+headed c = c .put-head .kept .0
 
 same : (c : tie.At-loop Inv-loop μ-loop) → length (c .loop .out) ≡ length (c .before .before .before .before .before .before .before .before .before .args .out .now)
 same c =

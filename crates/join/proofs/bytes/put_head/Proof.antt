@@ -27,7 +27,7 @@ marked : (c : tie.After-put-number) → length (c .put-number .last .0) ≡ leng
 marked c =
     let out = c .before .before .before .args .out .now in
     let long : length (set (set (set out 0 84) 1 66) 2 82) ≡ length out = rw (length-set, length-set, length-set) in
-    rw (c .put-number .ensures) (length-paste (set (set (set out 0 84) 1 66) 2 82) 3 (bytesOf 2 1) 2 (omega (arith, long, c .before .before .before .pre)) (omega arith) ∙ long)
+    c .put-number .kept .0 ∙ long
 
 put-number-requires-2 : tie.Need-put-number-requires-2
 put-number-requires-2 c κs = omega (arith, marked (c .before .before .before), c .before .before .before .before .before .before .pre)
@@ -37,7 +37,7 @@ same-length c =
     let second = c .before .before in
     let first = second .before .before .before .before in
     let a = first .before .before .before .args in
-    rw (second .put-number2 .ensures) (length-paste (first .put-number .last .0) 5 (bytesOf 1 (a .count)) 1 (omega (arith, marked first, first .before .before .before .pre)) (omega arith) ∙ marked first)
+    second .put-number2 .kept .0 ∙ marked first
 
 returns : tie.Need-returns
 returns c =

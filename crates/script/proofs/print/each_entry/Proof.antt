@@ -1,0 +1,42 @@
+-- `each_entry` is safe and ends: the index goes up to the list's length.
+use Prim.Native.Nat.{_≤_, _-_}
+use native.Mathlib.Omega.{arith}
+use borrow.Author.Needs.{needs}
+use lib.ListN.{length}
+use Rattle.script.proofs.print.each_entry.Statement.{statement}
+use Rattle.script.proofs.print.each_entry.Tie as tie
+
+abbrev Inv-loop : tie.InvT-loop
+Inv-loop entries i₀ i = i ≤ length entries
+
+abbrev μ-loop : tie.MeasureT-loop
+μ-loop entries i₀ i = length entries - i
+
+loop-holds : tie.Need-loop-holds Inv-loop μ-loop
+loop-holds c = omega arith
+
+mul-number : tie.Need-mul-number Inv-loop μ-loop
+mul-number c = search needs
+
+shared-slice-read-number : tie.Need-shared-slice-read-number Inv-loop μ-loop
+shared-slice-read-number c = omega arith
+
+number-requires : tie.Need-number-requires Inv-loop μ-loop
+number-requires c κs = search needs
+
+add-i : tie.Need-add-i Inv-loop μ-loop
+add-i c = omega arith
+
+loop-less : tie.Need-loop-less Inv-loop μ-loop
+loop-less c = omega arith
+
+loop-again : tie.Need-loop-again Inv-loop μ-loop
+loop-again c = omega arith
+
+returns : tie.Need-returns Inv-loop μ-loop
+returns c = tt
+
+pub each-entry-spec : {M : Type 1} → statement M
+each-entry-spec =
+    tie.close
+    (tie.spec Inv-loop μ-loop loop-holds mul-number shared-slice-read-number number-requires add-i loop-less loop-again returns)
