@@ -5,10 +5,9 @@ use mathlib.Core.Path.{_≡_, refl, sym, _∙_}
 use mathlib.Core.Bool.{Bool, true, false, not, _&&_, _||_, and-true, and-false, or-true, or-false, false≢true}
 use mathlib.Core.List.{List}
 use mathlib.Core.Logic.{_⊎_, inl, inr, ⊎-elim}
-use native.Mathlib.Decide.{ℕ-discrete}
 use native.Mathlib.Omega.{arith}
 use lib.Dec.{eqb, leb}
-use borrow.Author.Tests.{eqb-true, eq-eqb, ne-eqb, le-leb, leb-true}
+use borrow.Author.Tests.{eqb-true, eq-eqb, le-leb, leb-true}
 use Rattle.section.specs.Choose.{choose}
 use Rattle.section.proofs.Table.{all-at}
 use Rattle.member.specs.Fields.{KIND, CODE, DEAD-LOAD, MU-B, FIELDS, field}
@@ -20,7 +19,7 @@ use Rattle.files.specs.Reading.{firstFault}
 use Rattle.files.specs.SurveyFile.{countOf, recordAt}
 use Rattle.files.specs.Words.{each}
 use Rattle.files.specs.declared.Reading.the-variants.{Taken}
-use Rattle.files.proofs.Faults.{refusal, refused-not, all-hold, hold-all, first-failing}
+use Rattle.files.proofs.Faults.{refusal, all-hold, hold-all, first-failing, counts-differ, counts-alike, counts-same}
 use Rattle.files.proofs.Tests.{both, all-of, refutes}
 use Rattle.between.specs.Order.{mustStay, mayGrow, fieldOrdered, ordered, orderFault, Ordered, orderAnswer, orderOf, OrderedBefore, InOrder}
 
@@ -59,19 +58,16 @@ may-grow-is kind code f = go (eqb kind 7) (eqb f DEAD-LOAD) refl
 module _ (n n' : ℕ) (at at' : ℕ → Member) where
   pub count-differs : ¬ (n ≡ n') → orderAnswer n n' at at' ≡ refusal 15 0
   unfolding orderAnswer
-  count-differs d = rw (ne-eqb n n' d)
+  count-differs = counts-differ 15 (omega arith) n n' (each (λ i. orderFault (at i) (at' i)) n)
 
   pub count-alike : n ≡ n' → orderAnswer n n' at at' ≡ firstFault 1 (each (λ i. orderFault (at i) (at' i)) n)
   unfolding orderAnswer
-  count-alike e = rw (eq-eqb n n' e)
+  count-alike = counts-alike 15 (omega arith) n n' (each (λ i. orderFault (at i) (at' i)) n)
 
 -- surveys in order have the same count
 pub order-count : (first second : List ℕ) → orderOf first second ≡ Taken → countOf first ≡ countOf second
-order-count first second e =
-    elim (ℕ-discrete (countOf first) (countOf second)) [
-      | yes same ↦ same
-      | no other ↦ absurd (refused-not 15 0 (sym (count-differs _ _ _ _ other) ∙ e))
-    ]
+unfolding orderAnswer
+order-count first second = counts-same 15 (omega arith) (countOf first) (countOf second) (each (λ i. orderFault (recordAt first i) (recordAt second i)) (countOf first))
 
 -- a field that may not grow is equal, and any is as great
 as-great : (g : Bool) (x y : ℕ) → choose g (leb x y) (eqb x y) ≡ true → x ≤ y

@@ -48,8 +48,8 @@ use Rattle.convert.specs.Claims.{written as converted-bytes}
 use Rattle.vehicles.proofs.Alike.{read-alike}
 use Rattle.convert.proofs.Claims.{convert-answered, convert-taken}
 use Rattle.join.specs.Claims.{written as joinedSurvey}
-use Rattle.join.proofs.Claims.{other-member, join-answered, join-taken}
-use Rattle.join.proofs.Tables.{rest-must-agree}
+use Rattle.join.proofs.Claims.{mean-in-range, other-member, join-answered, join-taken}
+use Rattle.join.proofs.Tables.{listed-must-agree, mean-taken}
 use Rattle.session.specs.Answers.{Outcome, Values, WithMargin, RefusedAt, refusedBy, judgementAnswer}
 use Rattle.session.specs.Calls.{newSession, members, stateFault, rateFault, judgeFault, loadSurvey, loadVehicle, storedSurvey, storedVehicle, unlessFault, rate, judge, judgeList, loadFiles, thenJudge, judgeFiles}
 use Rattle.demands.specs.Demands.{Demand1, Demand2, Demand3}
@@ -213,8 +213,10 @@ demand2 =
       rates-alike = λ s file file' a a' same. same-read s file file' (read-alike file file' a a' same);
       converted-alike = λ s wanted file out n w. same-read s file (converted-bytes wanted file out n) (convert-taken wanted file out .files n w .alike);
       joined = join-taken;
-      must-agree = rest-must-agree;
+      must-agree = listed-must-agree;
+      mean-taken = mean-taken;
       other-member = other-member;
+      mean-in-range = mean-in-range;
       joined-loads = λ s first second out n w. allowed-loads s (joinedSurvey first second out n) (join-taken first second out .files n w .allowed);
     }
 

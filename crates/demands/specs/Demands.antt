@@ -25,7 +25,7 @@ use Rattle.between.specs.declared.Between.{Between}
 use Rattle.vehicles.specs.Alike.{SameNumbers}
 use Rattle.convert.specs.Claims.{Writes, written, ConvertAnswered, ConvertTaken}
 use Rattle.convert.specs.declared.Wanted.{Wanted}
-use Rattle.join.specs.Claims.{Writes as JoinWrites, written as joinedSurvey, RestMustAgree, OtherMember, JoinAnswered, JoinTaken}
+use Rattle.join.specs.Claims.{Writes as JoinWrites, written as joinedSurvey, ListedMustAgree, MeanTaken, MeanInRange, OtherMember, JoinAnswered, JoinTaken}
 use Rattle.session.specs.Answers.{Values, RefusedAt, refusedBy, judgementAnswer}
 use Rattle.session.specs.Calls.{Valid, newSession, members, loadSurvey, loadVehicle, rate, judge, judgeList, judgeFiles}
 use Rattle.demands.specs.History.{Call, LoadSurvey, LoadVehicle, after, TakesSurvey, TakesVehicle, NoneTakes, LastTakes, TakenLast, Holds}
@@ -109,12 +109,14 @@ pub record Demand2 : Type 0 where
       loadVehicle s file' ≡ loadVehicle s file
   pub converted-alike : (s : Session) (wanted : Wanted) (file out : List ℕ) (n : ℕ) → Writes wanted file out n →
       loadVehicle s (written wanted file out n) ≡ loadVehicle s file
-  -- request 10/13: two surveys are joined exactly when the request allows it, into one that has the mean of each pair of readings; which fields must
-  -- agree, and that another kind or code is refused as such
+  -- request 10/13: two surveys are joined exactly when the request allows it. Which fields must agree, and which half of a mean goes up; another kind
+  -- or code is 18
   pub joined : (first second out : List ℕ) → JoinTaken first second out
-  pub must-agree : RestMustAgree
+  pub must-agree : ListedMustAgree
+  pub mean-taken : MeanTaken
   pub other-member : OtherMember
-  -- "A mean outside its range cannot arise, and this is to be shown.": the load call takes the joined survey
+  -- "A mean outside its range cannot arise, and this is to be shown.": of two records, and of surveys: the load call takes the joined one
+  pub mean-in-range : MeanInRange
   pub joined-loads : (s : Session) (first second out : List ℕ) (n : ℕ) → JoinWrites first second out n →
       loadSurvey s (joinedSurvey first second out n) .answer ≡ Values []
 

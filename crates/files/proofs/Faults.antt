@@ -7,10 +7,11 @@ use mathlib.Core.Bool.{Bool, true, false}
 use mathlib.Core.Logic.{_⊎_, inl, inr}
 use native.Mathlib.Numerals.{add-one}
 use native.Mathlib.Nat.{add-zero}
+use native.Mathlib.Decide.{ℕ-discrete}
 use native.Mathlib.Omega.{arith}
 use lib.ListN.{length, getD}
 use lib.Dec.{eqb}
-use borrow.Author.Tests.{eqb-true, eqb-false, ne-eqb}
+use borrow.Author.Tests.{eqb-true, eqb-false, eq-eqb, ne-eqb}
 use Rattle.section.specs.Choose.{choose}
 use Rattle.files.specs.Words.{each}
 use Rattle.files.specs.Reading.{_unless_, firstFault, orElse, test, numberOf, placeOf}
@@ -158,3 +159,21 @@ module _ (number : ℕ) (some : 0 < number) (test : ℕ → Bool) where
       let before : (k : ℕ) → k < i → test k ≡ true = λ k l. passed number (test k) some (sym (getD-each failing n k 0 (omega arith)) ∙ at .first k l) in
       let fault : failing i ≡ 0 → ⊥ = λ z. at .fault (sym (at .number) ∙ getD-each failing n i 0 inside ∙ z) in
       (i, inside, before, refutes {P = failing i ≡ 0} (test i) (λ h. ap (λ (b : Bool). number unless b) h) fault)
+
+-- two counts are compared before the records: where they differ that is the answer, at place 0
+module _ (number : ℕ) (some : 0 < number) (n n' : ℕ) (faults : List ℕ) where
+  abbrev countsFirst : Reading
+  countsFirst = firstFault 0 (number unless eqb n n' ∷ faults)
+
+  pub counts-differ : ¬ (n ≡ n') → countsFirst ≡ refusal number 0
+  counts-differ d = rw (ne-eqb n n' d, ne-eqb number 0 (omega arith))
+
+  pub counts-alike : n ≡ n' → countsFirst ≡ firstFault 1 faults
+  counts-alike e = rw (eq-eqb n n' e)
+
+  pub counts-same : countsFirst ≡ Taken → n ≡ n'
+  counts-same e =
+      elim (ℕ-discrete n n') [
+        | yes same ↦ same
+        | no other ↦ absurd (refused-not number 0 (sym (counts-differ other) ∙ e))
+      ]

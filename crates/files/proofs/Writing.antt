@@ -27,7 +27,7 @@ paste-behind row at a b n m long e f =
 -- what the output then holds
 module _ (bytes out : List ℕ) where
   pub onto-first : (n : ℕ) → n ≡ length bytes → take n (onto bytes out) ≡ bytes
-  onto-first n e = take-at bytes (drop (length bytes) out) n (sym e)
+  onto-first n e = take-at bytes _ n (sym e)
 
   pub onto-beyond : (n : ℕ) → n ≡ length bytes → drop n (onto bytes out) ≡ drop n out
   onto-beyond n e = drop-at bytes (drop (length bytes) out) n (sym e) ∙ rw e

@@ -23,7 +23,7 @@ ghost use lib.ListN.{length, replicate};
 ghost use Rattle.files.specs.Words.{each};
 ghost use Rattle.files.specs.Reading.{firstFault, orElse};
 ghost use Rattle.member.specs.Fields.{MOST-MEMBERS};
-ghost use Rattle.files.specs.SurveyFile.{SURVEY-HEADER, RECORD, recordAt, recordFaults, sequenceAnswer, blankMember, blankSurvey, readSurvey};
+ghost use Rattle.files.specs.SurveyFile.{SURVEY-HEADER, RECORD, countOf, recordAt, recordFaults, sequenceAnswer, blankMember, blankSurvey, readSurvey};
 
 // The versions of a survey are 1 and 2.
 const LAST_VERSION: u32 = 2;
@@ -34,6 +34,15 @@ pub const HEADER: usize = 6;
 // Sixteen words.
 pub const RECORD: usize = 32;
 
+// The count of records, the last byte of the header.
+pub fn count_of(bytes: &[u8]) -> usize
+    requires { ⌜ SURVEY-HEADER ≤ length (now bytes) ⌝ }
+    ensures { λ r. ⌜ (r ≡ countOf (now (bytes .entry))) × (r < 256) ⌝ }
+{
+    wide(bytes[HEADER - 1]) as usize
+}
+
+// The record of an index, from 0.
 pub fn record_at(bytes: &[u8], i: usize) -> Member
     requires { ⌜ SURVEY-HEADER + RECORD * (i + 1) ≤ length (now bytes) ⌝ }
     ensures { λ r. ⌜ r ≡ recordAt (now (bytes .entry)) i ⌝ }
@@ -143,7 +152,7 @@ pub fn read_survey(bytes: &[u8]) -> SurveyRead
     if number != 0 {
         return refused(Reading::Refused(Refusal { number, place: 0 }));
     }
-    let count = wide(bytes[5]) as usize;
+    let count = count_of(bytes);
     let answer = records_answer(bytes, count);
     match answer {
         Reading::Taken => {

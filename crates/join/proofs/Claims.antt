@@ -1,6 +1,6 @@
 -- What is claimed of the join, proved.
 -- Assumes nothing.
-use Prim.Native.Nat.{ℕ, _-_, _<_}
+use Prim.Native.Nat.{ℕ, _<_}
 use mathlib.Core.Path.{_≡_, sym, subst, _∙_}
 use mathlib.Core.List.{List}
 use mathlib.Core.Logic.{inl, inr, ⊎-elim}
@@ -13,11 +13,11 @@ use Rattle.files.specs.Reading.{firstRefusal}
 use Rattle.files.specs.SurveyFile.{countOf, recordAt}
 use Rattle.files.specs.Writing.{onto}
 use Rattle.files.proofs.Writing.{onto-first, onto-beyond, onto-length, written-tests, refused-tests}
-use Rattle.join.specs.Join.{joinedMember, output, joinTests, joined, joinedBytes, joinedOut}
+use Rattle.join.specs.Join.{joinedAt, output, joinTests, joined, joinedBytes, joinedOut}
 use Rattle.join.specs.Fault.{JoinFault}
-use Rattle.join.specs.Claims.{Between, OtherMember, Writes, written, JoinAnswered, JoinedFile, JoinTaken}
+use Rattle.join.specs.Claims.{LiesBetween, MeanInRange, OtherMember, Writes, written, JoinAnswered, JoinedFile, JoinTaken}
 use Rattle.join.proofs.Records.{not-agreed-fault}
-use Rattle.join.proofs.Means.{kind-agrees, code-agrees, same-field, joined-between}
+use Rattle.join.proofs.Means.{kind-agrees, code-agrees, same-field, joined-between, joined-allowed}
 use Rattle.join.proofs.Outputs.{version-written, record-written, count-kept, output-allowed}
 use Rattle.join.proofs.Pairs.{length-output, Passed, all-passed, passed-all, out-written}
 use Rattle.join.proofs.Named.{fault-refused, passed-good, good-passed, passed-or-fault}
@@ -27,6 +27,10 @@ pub other-member : OtherMember
 other-member m n d =
     not-agreed-fault m n
     (λ g. ⊎-elim (λ k. k (same-field m n g KIND (omega arith) (kind-agrees _ _))) (λ c. c (same-field m n g CODE (omega arith) (code-agrees _ _))) d)
+
+-- a mean is in its range
+pub mean-in-range : MeanInRange
+mean-in-range m n a b g = joined-allowed m n g a b
 
 module _ (first second out : List ℕ) where
   refused-by : (n p : ℕ) → JoinFault first second (length out) n p → joined first second (length out) ≡ RefusedAt n p
@@ -59,12 +63,12 @@ module _ (first second out : List ℕ) where
     written-is : written first second out n ≡ output first second
     written-is = rw out-is (onto-first (output first second) out n (passed-n .1))
 
-    pub joined-file : JoinedFile first second out n
+    joined-file : JoinedFile first second out n
     joined-file =
         let p = passed-n .0 in
         let size = passed-n .1 in
         let g = passed-good first second (length out) p in
-        let record-is : (i : ℕ) → i < countOf first → recordAt (written first second out n) i ≡ joinedMember (recordAt first i) (recordAt second i) =
+        let record-is : (i : ℕ) → i < countOf first → recordAt (written first second out n) i ≡ joinedAt first second i =
         λ i l. rw written-is (record-written first second (g .allowed) (g .counts) (g .joinable) i l) in
         record {
           count = size ∙ length-output first second;
@@ -75,7 +79,7 @@ module _ (first second out : List ℕ) where
           members = rw written-is (count-kept first second (g .allowed) (g .counts) (g .joinable));
           records = record-is;
           between = λ i f l h.
-              subst (λ (m : Member). Between (field (recordAt first i) f) (field (recordAt second i) f) (field m f)) (sym (record-is i l)) (joined-between (recordAt first i) (recordAt second i) (g .joinable i l .agreed) f h);
+              subst (λ (m : Member). LiesBetween (field (recordAt first i) f) (field (recordAt second i) f) (field m f)) (sym (record-is i l)) (joined-between (recordAt first i) (recordAt second i) (g .joinable i l .agreed) f h);
         }
 
   pub join-taken : JoinTaken first second out

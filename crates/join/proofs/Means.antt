@@ -1,6 +1,6 @@
 -- A mean outside its range cannot arise: what two allowed readings of a record give is an allowed record.
 -- Assumes nothing.
-use Prim.Native.Nat.{ℕ, zero, suc, _-_, _≤_, _<_}
+use Prim.Native.Nat.{ℕ, _-_, _≤_, _<_}
 use mathlib.Core.Path.{_≡_, refl, sym, subst, _∙_}
 use mathlib.Core.Bool.{Bool, true, false}
 use mathlib.Core.List.{[], _∷_}
@@ -8,16 +8,16 @@ use mathlib.Core.Logic.{_⊎_, inl, inr, ⊎-elim}
 use native.Mathlib.Decide.{ℕ-discrete}
 use native.Mathlib.Omega.{arith}
 use lib.Dec.{eqb}
-use Rattle.section.specs.Choose.{choose}
 use Rattle.member.specs.Fields.{KIND, SPAN, DISTANCE, CODE, S1, S2, S3, S4, MU-A, MU-B, FIELDS, field}
-use Rattle.member.specs.Format.{_‥_, In, holds, used, ranges, rangeOf, AllowedMember}
+use Rattle.member.specs.Format.{In, holds, used, rangeOf, AllowedMember}
 use Rattle.member.specs.declared.record.Member.{Member}
+use Rattle.member.proofs.Ranges.{same-range, longer-range}
 use Rattle.member.proofs.Wears.{neither-holds, Outside, unlike, no-rot, no-loss}
 use Rattle.files.proofs.Each.{getD-each}
-use Rattle.join.specs.Rule.{sizeFields, sectionRule, ruleOf, joinedNumber}
-use Rattle.join.specs.Join.{ruleAt, joinedMember}
+use Rattle.join.specs.Rule.{sizeFields, sectionRule, ruleOf}
+use Rattle.join.specs.Join.{ruleAt, joinedField, joinedMember}
 use Rattle.join.specs.Fault.{Agree, Agreed}
-use Rattle.join.specs.Claims.{Between}
+use Rattle.join.specs.Claims.{LiesBetween}
 use Rattle.join.specs.declared.rule.Rule.{Rule}
 use Rattle.join.specs.declared.rule.Rule.the-variants.{MustAgree}
 use Rattle.join.proofs.Rules.{mean-between, between-range}
@@ -57,44 +57,25 @@ module _ (kind code : ℕ) where
   unfolding ruleOf
   B-agrees = outside-agrees MU-B (inr (omega arith)) code
 
-  -- the range of a field goes by the span only for x, whose range a longer span widens
-  pub same-range : (l l' f : ℕ) → ¬ (f ≡ DISTANCE) → rangeOf kind code l f ≡ rangeOf kind code l' f
-  unfolding rangeOf ranges
-  same-range l l' zero d = refl
-  same-range l l' (suc zero) d = refl
-  same-range l l' (suc (suc zero)) d = refl
-  same-range l l' (suc (suc (suc zero))) d = refl
-  same-range l l' (suc (suc (suc (suc zero)))) d = absurd (d refl)
-  same-range l l' (suc (suc (suc (suc (suc f))))) d = refl
-
-  pub longer-range : (l l' x : ℕ) → l ≤ l' → In (rangeOf kind code l DISTANCE) x → In (rangeOf kind code l' DISTANCE) x
-  unfolding rangeOf ranges
-  longer-range l l' x h = go (eqb kind 7) (eqb kind 2)
-    where
-      go : (seven two : Bool) → In (choose seven (1 ‥ 10) (choose two (10 ‥ 1000) (1 ‥ (l - 1)))) x → In (choose seven (1 ‥ 10) (choose two (10 ‥ 1000) (1 ‥ (l' - 1)))) x
-      go true two r = r
-      go false true r = r
-      go false false r = (r .0, omega (arith, r .1))
-
 -- fields that must agree
 module _ (m n : Member) (g : Agreed m n) where
-  pub same-field : (f : ℕ) → f < FIELDS → ruleAt m n f ≡ MustAgree → field m f ≡ field n f
+  pub same-field : (f : ℕ) → f < FIELDS → ruleAt m f ≡ MustAgree → field m f ≡ field n f
   same-field f l e = subst (λ (r : Rule). Agree r (field m f) (field n f)) e (g f l)
 
-  pub joined-field : (f : ℕ) → f < FIELDS → field (joinedMember m n) f ≡ joinedNumber (ruleAt m n f) (field m f) (field n f)
+  pub joined-field : (f : ℕ) → f < FIELDS → field (joinedMember m n) f ≡ joinedField m n f
   unfolding joinedMember
-  joined-field f l = getD-each (λ k. joinedNumber (ruleAt m n k) (field m k) (field n k)) FIELDS f 0 l
+  joined-field f l = getD-each (joinedField m n) FIELDS f 0 l
 
-  pub joined-between : (f : ℕ) → f < FIELDS → Between (field m f) (field n f) (field (joinedMember m n) f)
-  joined-between f l = rw (joined-field f l) (mean-between (field m f) (field n f) (ruleAt m n f) (g f l))
+  pub joined-between : (f : ℕ) → f < FIELDS → LiesBetween (field m f) (field n f) (field (joinedMember m n) f)
+  joined-between f l = rw (joined-field f l) (mean-between (field m f) (field n f) (ruleAt m f) (g f l))
 
-  joined-same : (f : ℕ) → f < FIELDS → ruleAt m n f ≡ MustAgree → field (joinedMember m n) f ≡ field m f
+  joined-same : (f : ℕ) → f < FIELDS → ruleAt m f ≡ MustAgree → field (joinedMember m n) f ≡ field m f
   joined-same f l e = joined-field f l ∙ rw e
 
-  pub kind-kept : field (joinedMember m n) KIND ≡ field m KIND
+  kind-kept : field (joinedMember m n) KIND ≡ field m KIND
   kind-kept = joined-same KIND (omega arith) (kind-agrees _ _)
 
-  pub code-kept : field (joinedMember m n) CODE ≡ field m CODE
+  code-kept : field (joinedMember m n) CODE ≡ field m CODE
   code-kept = joined-same CODE (omega arith) (code-agrees _ _)
 
   kind-same : field m KIND ≡ field n KIND

@@ -15,15 +15,14 @@ use Rattle.files.specs.declared.Refusal.{Refusal}
 use Rattle.files.proofs.Each.{length-each, getD-each}
 use Rattle.files.proofs.Faults.{refusal, reading-case, fault-at, taken-none, none-taken, refused-at}
 use Rattle.files.proofs.Surveys.{taken-allowed, allowed-taken, named-refused, either-file}
-use Rattle.join.specs.Join.{joinFault, pairFaults, pairAnswer, output, joinTests}
-use Rattle.join.specs.Fault.{BothAllowed, JoinableBefore, outputLength, FirstAtFault, JoinFault, first-refused, second-refused, other-count, not-agreed, too-far, short-output, MayBeJoined}
+use Rattle.join.specs.Join.{pairFault, pairFaults, pairAnswer, output, joinTests}
+use Rattle.join.specs.Fault.{BothAllowed, JoinableBefore, outputLength, Reached, JoinFault, first-refused, second-refused, other-count, not-agreed, too-far, short-output, MayBeJoined}
 use Rattle.join.proofs.Records.{joinable-clear, clear-joinable, not-agreed-fault, too-far-fault, Readings, may-join, do-not-agree, are-far, readings-case}
 use Rattle.join.proofs.Pairs.{count-differs, count-alike, pair-count, length-output, Passed}
 
 module _ (first second : List ℕ) where
-  -- the fault of the pair of index i
   abbrev fault : (i : ℕ) → ℕ
-  fault i = joinFault (recordAt first i) (recordAt second i)
+  fault = pairFault first second
 
   -- the pairs may be joined exactly where the tests find nothing
   pair-joinable : pairAnswer first second ≡ Taken → JoinableBefore first second (countOf first)
@@ -37,7 +36,7 @@ module _ (first second : List ℕ) where
   joinable-pair same h = count-alike first second same ∙ none-taken 1 fault (countOf first) (clear-before (countOf first) h)
 
   -- the first pair at fault is the refusal
-  first-fault : (i number : ℕ) → FirstAtFault first second i → fault i ≡ number → 0 < number → pairAnswer first second ≡ refusal number (i + 1)
+  first-fault : (i number : ℕ) → Reached first second i → fault i ≡ number → 0 < number → pairAnswer first second ≡ refusal number (i + 1)
   first-fault i number f e some =
       count-alike first second (f .counts) ∙ fault-at fault 1 i (countOf first) number (f .there) (none-taken 1 fault i (clear-before i (f .before))) e (omega arith)
 
@@ -88,12 +87,12 @@ module _ (first second : List ℕ) where
       where
         roomy : BothAllowed first second → countOf first ≡ countOf second → pairAnswer first second ≡ Taken → Outcome
         roomy b same e =
-            elim (decLe (outputLength first second) room) [
+            elim (decLe (outputLength first) room) [
               | yes l ↦ inl (good-passed (record { allowed = b; counts = same; joinable = pair-joinable e; room-enough = l }))
               | no s ↦ inr (14, 0, short-output b same (pair-joinable e) (omega arith))
             ]
 
-        at-fault : (i : ℕ) → FirstAtFault first second i → (fault i ≡ 0 → ⊥) → Readings (recordAt first i) (recordAt second i) → Outcome
+        at-fault : (i : ℕ) → Reached first second i → (fault i ≡ 0 → ⊥) → Readings (recordAt first i) (recordAt second i) → Outcome
         at-fault i f some (may-join j) = absurd (some (joinable-clear _ _ j))
         at-fault i f some (do-not-agree h) = inr (18, i + 1, not-agreed i f h)
         at-fault i f some (are-far a h) = inr (19, i + 1, too-far i f a h)

@@ -3,10 +3,10 @@
 use Prim.Native.Nat.{ℕ, _+_, _*_, _≤_}
 use mathlib.Core.Path.{_≡_, refl, sym, ap, _∙_}
 use mathlib.Core.List.{List}
-use native.Mathlib.Decide.{ℕ-discrete}
+use native.Mathlib.Omega.{arith}
 use lib.Dec.{leb}
 use lib.ListN.{length}
-use borrow.Author.Tests.{eq-eqb, ne-eqb, leb-true, le-leb}
+use borrow.Author.Tests.{leb-true, le-leb}
 use Rattle.files.specs.Reading.{firstFault, orElse, test, firstRefusal}
 use Rattle.files.specs.SurveyFile.{SURVEY-HEADER, RECORD, countOf, readSurvey}
 use Rattle.files.specs.Writing.{writtenAnswer, onto}
@@ -15,7 +15,7 @@ use Rattle.files.specs.declared.Reading.the-variants.{Taken, Refused}
 use Rattle.files.specs.declared.Refusal.{Refusal}
 use Rattle.files.specs.declared.output.Written.the-variants.{Bytes}
 use Rattle.files.specs.declared.output.Written.the-variants.{Refused as NotWritten}
-use Rattle.files.proofs.Faults.{refusal, refused-not, both-taken, or-none, test-holds}
+use Rattle.files.proofs.Faults.{refusal, refused-not, both-taken, or-none, test-holds, counts-differ, counts-alike, counts-same}
 use Rattle.join.specs.Join.{pairFaults, pairAnswer, output, joinTests, joined, joinedBytes, joinedOut}
 use Rattle.join.proofs.Surveys.{length-survey}
 
@@ -23,19 +23,16 @@ module _ (first second : List ℕ) where
   -- another count is the refusal, else the first record at fault
   pub count-differs : ¬ (countOf first ≡ countOf second) → pairAnswer first second ≡ refusal 18 0
   unfolding pairAnswer
-  count-differs d = rw (ne-eqb _ _ d)
+  count-differs = counts-differ 18 (omega arith) (countOf first) (countOf second) (pairFaults first second (countOf first))
 
   pub count-alike : countOf first ≡ countOf second → pairAnswer first second ≡ firstFault 1 (pairFaults first second (countOf first))
   unfolding pairAnswer
-  count-alike e = rw (eq-eqb _ _ e)
+  count-alike = counts-alike 18 (omega arith) (countOf first) (countOf second) (pairFaults first second (countOf first))
 
   -- surveys that may be joined have the same count
   pub pair-count : pairAnswer first second ≡ Taken → countOf first ≡ countOf second
-  pair-count e =
-      elim (ℕ-discrete (countOf first) (countOf second)) [
-        | yes same ↦ same
-        | no other ↦ absurd (refused-not 18 0 (sym (count-differs other) ∙ e))
-      ]
+  unfolding pairAnswer
+  pair-count = counts-same 18 (omega arith) (countOf first) (countOf second) (pairFaults first second (countOf first))
 
   pub length-output : length (output first second) ≡ SURVEY-HEADER + RECORD * countOf first
   length-output = length-survey _ (countOf first)

@@ -4,11 +4,10 @@ use mathlib.Core.Path.{_≡_, refl, sym, _∙_}
 use mathlib.Core.Bool.{Bool, true, false, false≢true}
 use native.Mathlib.Omega.{arith}
 use Rattle.section.proofs.Table.{all-at}
-use Rattle.member.specs.Fields.{FIELDS, field}
+use Rattle.member.specs.Fields.{FIELDS}
 use Rattle.member.specs.declared.record.Member.{Member}
 use Rattle.files.proofs.Tests.{all-of, refutes}
-use Rattle.join.specs.Rule.{agrees, near}
-use Rattle.join.specs.Join.{ruleAt, agreed, close, joinFault}
+use Rattle.join.specs.Join.{ruleAt, fieldAgrees, fieldNear, agreed, close, joinFault}
 use Rattle.join.specs.Fault.{Agreed, Close, Joinable}
 use Rattle.join.proofs.Rules.{agrees-plain, plain-agrees, near-plain, plain-near}
 
@@ -28,16 +27,16 @@ module _ (m n : Member) where
 
   -- the tests of all fields, in plain words
   agreed-plain : agreed m n ≡ true → Agreed m n
-  agreed-plain e f l = agrees-plain _ _ (ruleAt m n f) (all-at (λ k. agrees (ruleAt m n k) (field m k) (field n k)) FIELDS e f l)
+  agreed-plain e f l = agrees-plain _ _ (ruleAt m f) (all-at (fieldAgrees m n) FIELDS e f l)
 
   plain-agreed : Agreed m n → agreed m n ≡ true
-  plain-agreed h = all-of (λ k. agrees (ruleAt m n k) (field m k) (field n k)) FIELDS (λ f l. plain-agrees _ _ (ruleAt m n f) (h f l))
+  plain-agreed h = all-of (fieldAgrees m n) FIELDS (λ f l. plain-agrees _ _ (ruleAt m f) (h f l))
 
   close-plain : close m n ≡ true → Close m n
-  close-plain e f l = near-plain _ _ (ruleAt m n f) (all-at (λ k. near (ruleAt m n k) (field m k) (field n k)) FIELDS e f l)
+  close-plain e f l = near-plain _ _ (ruleAt m f) (all-at (fieldNear m n) FIELDS e f l)
 
   plain-close : Close m n → close m n ≡ true
-  plain-close h = all-of (λ k. near (ruleAt m n k) (field m k) (field n k)) FIELDS (λ f l. plain-near _ _ (ruleAt m n f) (h f l))
+  plain-close h = all-of (fieldNear m n) FIELDS (λ f l. plain-near _ _ (ruleAt m f) (h f l))
 
   -- the fault in plain words
   pub joinable-clear : Joinable m n → joinFault m n ≡ 0

@@ -11,7 +11,7 @@ use Rattle.member.specs.Format.{Range, In}
 use Rattle.files.proofs.Tests.{both}
 use Rattle.join.specs.Rule.{agrees, near, joinedNumber}
 use Rattle.join.specs.Fault.{Agree, Near}
-use Rattle.join.specs.Claims.{Between}
+use Rattle.join.specs.Claims.{LiesBetween}
 use Rattle.join.specs.declared.rule.Rule.{Rule}
 use Rattle.join.specs.declared.rule.Rule.the-variants.{MustAgree, MeanUp, MeanDown, AnyMeanUp}
 
@@ -42,7 +42,7 @@ module _ (x y : ℕ) where
   plain-near AnyMeanUp h = refl
 
   -- the mean of two readings lies between them, its odd half up or down
-  pub mean-between : (r : Rule) → Agree r x y → Between x y (joinedNumber r x y)
+  pub mean-between : (r : Rule) → Agree r x y → LiesBetween x y (joinedNumber r x y)
   mean-between r h =
       elim (decLe x y) [
         | yes l ↦ inl (rising r h l)
@@ -62,5 +62,5 @@ module _ (x y : ℕ) where
       falling AnyMeanUp h l = (omega arith, omega arith)
 
 -- what lies between two numbers of a range lies in it
-pub between-range : (r : Range) (x y n : ℕ) → In r x → In r y → Between x y n → In r n
+pub between-range : (r : Range) (x y n : ℕ) → In r x → In r y → LiesBetween x y n → In r n
 between-range r x y n a b = ⊎-elim (λ h. (omega (arith, a .0, h .0), omega (arith, b .1, h .1))) (λ h. (omega (arith, b .0, h .0), omega (arith, a .1, h .1)))

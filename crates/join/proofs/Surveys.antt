@@ -39,7 +39,7 @@ number-put out at m f long =
     let next : 2 * (f + 1) ≡ 2 * f + 2 = omega arith in
     rw (next, add-one) (paste-behind out at (numbers m f) (bytesOf 2 (field m f)) (2 * f) 2 long (length-numbers m f) refl)
 
-pub length-record : (m : Member) → length (recordBytes m) ≡ RECORD
+length-record : (m : Member) → length (recordBytes m) ≡ RECORD
 length-record m = length-numbers m FIELDS
 
 -- of the records by index

@@ -17,40 +17,56 @@ use Rattle.join.specs.Rule.{ruleOf, agrees, near, joinedNumber}
 use Rattle.join.specs.SurveyBytes.{surveyBytes}
 use Rattle.join.specs.declared.rule.Rule.{Rule}
 
--- two readings of one record
-module _ (m n : Member) where
-  -- by the first's kind and code; where the second's are others that is 18, whatever the rest
-  abbrev pub ruleAt : (f : ℕ) → Rule
-  ruleAt f = ruleOf (field m KIND) (field m CODE) f
+-- the rule of a field, by the record's own kind and code
+abbrev pub ruleAt : Member → (f : ℕ) → Rule
+ruleAt m f = ruleOf (field m KIND) (field m CODE) f
 
+-- two readings of one record, by the rules of the first; where the second has another kind or code that is 18, whatever the rest
+module _ (m n : Member) where
   -- the fields that must agree do
+  abbrev pub fieldAgrees : (f : ℕ) → Bool
+  fieldAgrees f = agrees (ruleAt m f) (field m f) (field n f)
+
   abbrev pub agreed : Bool
-  agreed = all (λ f. agrees (ruleAt f) (field m f) (field n f)) FIELDS
+  agreed = all fieldAgrees FIELDS
 
   -- no sizes are too far apart
+  abbrev pub fieldNear : (f : ℕ) → Bool
+  fieldNear f = near (ruleAt m f) (field m f) (field n f)
+
   abbrev pub close : Bool
-  close = all (λ f. near (ruleAt f) (field m f) (field n f)) FIELDS
+  close = all fieldNear FIELDS
 
   -- "18 before 19 in it"
   unfoldable pub joinFault : ℕ
   joinFault = firstOf (18 unless agreed ∷ 19 unless close ∷ [])
 
   -- "and the mean is taken", field by field
+  abbrev pub joinedField : (f : ℕ) → ℕ
+  joinedField f = joinedNumber (ruleAt m f) (field m f) (field n f)
+
   unfoldable pub joinedMember : Member
-  joinedMember = record { fields = each (λ f. joinedNumber (ruleAt f) (field m f) (field n f)) FIELDS }
+  joinedMember = record { fields = each joinedField FIELDS }
 
 module _ (first second : List ℕ) where
-  -- the faults of the first n pairs of records
+  -- the fault of the two records of index i, from 0, and those of the first n pairs
+  abbrev pub pairFault : (i : ℕ) → ℕ
+  pairFault i = joinFault (recordAt first i) (recordAt second i)
+
   abbrev pub pairFaults : (n : ℕ) → List ℕ
-  pairFaults n = each (λ i. joinFault (recordAt first i) (recordAt second i)) n
+  pairFaults n = each pairFault n
 
   -- "18: counts differ, place 0, tested first .. First record at fault"
   unfoldable pub pairAnswer : Reading
   pairAnswer = firstFault 0 (18 unless eqb (countOf first) (countOf second) ∷ pairFaults (countOf first))
 
+  -- the record that the two of index i give
+  abbrev pub joinedAt : (i : ℕ) → Member
+  joinedAt i = joinedMember (recordAt first i) (recordAt second i)
+
   -- "The joined survey is written as version 1, so its order is the first survey's."
   abbrev pub output : List ℕ
-  output = surveyBytes (countOf first) (λ i. joinedMember (recordAt first i) (recordAt second i))
+  output = surveyBytes (countOf first) joinedAt
 
   -- "after both are read, the first's own refusals before the second's; then 14 if the output is too short"
   abbrev pub joinTests : (room : ℕ) → List Reading

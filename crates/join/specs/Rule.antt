@@ -13,7 +13,7 @@ use Rattle.member.specs.Wear.{rotFields, lostFields}
 use Rattle.join.specs.declared.rule.Rule.{Rule}
 use Rattle.join.specs.declared.rule.Rule.the-variants.{MustAgree, MeanUp, MeanDown, AnyMeanUp}
 
--- "section sizes (log diameter, width and height, c and a, the area of code 4)"
+-- "section sizes (log diameter, width and height, c and a, the area of code 4)"; code 5, request 1/13, is a log too
 unfoldable pub sizeFields : (code : ℕ) → List ℕ
 sizeFields code =
     choose (eqb code 1) (S1 ∷ [])
@@ -40,6 +40,10 @@ ruleOf kind code f =
     (choose (eqb f SPACING) (MeanUp 1)
     (choose (eqb f HEIGHT) (heightRule kind)
     (choose (eqb f DEAD-LOAD) AnyMeanUp (sectionRule code f))))
+
+-- "An odd half goes up for span, spacing, rot, loss and dead load, and down otherwise."
+unfoldable pub goesUp : (code : ℕ) → List ℕ
+goesUp code = SPAN ∷ SPACING ∷ rotFields code ++ lostFields code ++ (DEAD-LOAD ∷ [])
 
 -- "Kinds, species, codes, x, tiers, pieces, cuts, dowel type and diameter, A and B (deck rot too) must agree; for kind 7 h must too."
 unfoldable pub agreeing : (kind code : ℕ) → List ℕ

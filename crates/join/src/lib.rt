@@ -12,27 +12,20 @@ use files::answer::test;
 use files::output::Written;
 use files::survey::HEADER;
 use files::survey::RECORD;
+use files::survey::count_of;
 use files::survey::read_survey;
 use files::survey::record_at;
-use files::words::wide;
 use record::join_fault;
 use record::joined_member;
 ghost use mathlib.Core.Path.{_≡_};
-ghost use Prim.Native.Nat.{_+_, _*_, _≤_, _<_};
+ghost use Prim.Native.Nat.{_≤_};
 ghost use lib.Dec.{leb};
 ghost use lib.ListN.{length};
 ghost use Rattle.files.specs.Allowed.{AllowedSurveyFile};
 ghost use Rattle.files.specs.Reading.{orElse, test, firstRefusal};
-ghost use Rattle.files.specs.SurveyFile.{SURVEY-HEADER, RECORD, countOf};
 ghost use Rattle.files.specs.Writing.{writtenAnswer, onto};
+ghost use Rattle.join.specs.Fault.{outputLength};
 ghost use Rattle.join.specs.Join.{pairAnswer, output, joinTests, joined, joinedOut};
-
-fn count_of(survey: &[u8]) -> usize
-    requires { ⌜ SURVEY-HEADER ≤ length (now survey) ⌝ }
-    ensures { λ r. ⌜ (r ≡ countOf (now (survey .entry))) × (r < 256) ⌝ }
-{
-    wide(survey[5]) as usize
-}
 
 // 18 at place 0 for another count, else the first record at fault.
 fn pair_answer(first: &[u8], second: &[u8]) -> Reading
@@ -64,7 +57,7 @@ fn pair_answer(first: &[u8], second: &[u8]) -> Reading
     answer
 }
 
-// Two files that are taken: their own tests, then the output's room.
+// Two files that are taken: the tests of the pair, then the output's room.
 fn both_answer(first: &[u8], second: &[u8], room: usize) -> Reading
     requires { ⌜ AllowedSurveyFile (now first) × AllowedSurveyFile (now second) ⌝ }
     ensures { λ r. ⌜ r ≡ orElse (pairAnswer (now (first .entry)) (now (second .entry))) (test 14 (leb (length (output (now (first .entry)) (now (second .entry)))) room)) ⌝ }
@@ -91,7 +84,7 @@ fn join_answer(first: &[u8], second: &[u8], room: usize) -> Reading
 
 // The joined survey into the output, and how many bytes it has.
 fn put_joined(out: &mut [u8], first: &[u8], second: &[u8]) -> u64
-    requires { ⌜ (SURVEY-HEADER + RECORD * countOf (now first) ≤ length (now first)) × (SURVEY-HEADER + RECORD * countOf (now first) ≤ length (now second)) × (SURVEY-HEADER + RECORD * countOf (now first) ≤ length (now out)) ⌝ }
+    requires { ⌜ (outputLength (now first) ≤ length (now first)) × (outputLength (now first) ≤ length (now second)) × (outputLength (now first) ≤ length (now out)) ⌝ }
     ensures length { λ r. ⌜ r ≡ length (output (now (first .entry)) (now (second .entry))) ⌝ }
     ensures out { λ r. ⌜ now (out .exit) ≡ onto (output (now (first .entry)) (now (second .entry))) (now (out .entry)) ⌝ }
 {

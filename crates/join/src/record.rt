@@ -13,7 +13,7 @@ ghost use lib.Dec.{leb};
 ghost use Rattle.join.specs.Rule.{agrees, near, joinedNumber};
 ghost use Rattle.join.specs.Join.{joinFault, joinedMember};
 
-// Readings that must agree do.
+// Where the readings must agree, they do.
 fn readings_agree(rule: Rule, x: u16, y: u16) -> bool
     ensures { λ r. ⌜ r ≡ agrees rule x y ⌝ }
 {
@@ -25,7 +25,7 @@ fn readings_agree(rule: Rule, x: u16, y: u16) -> bool
     }
 }
 
-// They differ by so much or less.
+// Two readings differ by so much or less.
 fn is_within(apart: u16, x: u16, y: u16) -> bool
     ensures { λ r. ⌜ r ≡ (leb x (y + apart) && leb y (x + apart)) ⌝ }
 {
@@ -37,7 +37,7 @@ fn is_within(apart: u16, x: u16, y: u16) -> bool
     above & below
 }
 
-// Readings that may not be far apart are not.
+// Where the readings may differ by so much only, they differ by no more.
 fn readings_near(rule: Rule, x: u16, y: u16) -> bool
     ensures { λ r. ⌜ r ≡ near rule x y ⌝ }
 {
@@ -62,6 +62,7 @@ fn mean_down(x: u16, y: u16) -> u16
     ((wider(x) + wider(y)) / 2) as u16
 }
 
+// What two readings give: the mean, or the number that both have.
 fn joined_number(rule: Rule, x: u16, y: u16) -> u16
     ensures { λ r. ⌜ r ≡ joinedNumber rule x y ⌝ }
 {
@@ -99,6 +100,7 @@ pub fn join_fault(m: Member, n: Member) -> u64
     0
 }
 
+// The record that two readings of it give, field by field.
 pub fn joined_member(m: Member, n: Member) -> Member
     ensures { λ r. ⌜ r ≡ joinedMember m n ⌝ }
 {

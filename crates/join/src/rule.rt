@@ -31,6 +31,7 @@ fn is_size(code: u16, f: usize) -> bool
     }
 }
 
+// A section's fields: sizes and rot "by 1", losses "by any amount"; the rest must agree.
 fn section_rule(code: u16, f: usize) -> Rule
     ensures { λ r. ⌜ r ≡ sectionRule code f ⌝ }
 {
@@ -46,7 +47,7 @@ fn section_rule(code: u16, f: usize) -> Rule
     Rule::MustAgree
 }
 
-// The truss height; of closely spaced stringers, whose board thickness it is, it must agree.
+// "truss height .. by 1"; of closely spaced stringers, whose board thickness it is, it must agree.
 fn height_rule(kind: u16) -> Rule
     ensures { λ r. ⌜ r ≡ heightRule kind ⌝ }
 {
@@ -56,6 +57,7 @@ fn height_rule(kind: u16) -> Rule
     Rule::MeanDown(1)
 }
 
+// "spans may differ by 5, .. spacing .. by 1", the dead load "by any amount"; the other fields go by the section or must agree.
 pub fn rule_of(kind: u16, code: u16, f: usize) -> Rule
     ensures { λ r. ⌜ r ≡ ruleOf kind code f ⌝ }
 {

@@ -6,3 +6,4 @@ pub mod Falling
 pub mod Quantities
 pub mod Whole
 pub mod Wears
+pub mod Ranges

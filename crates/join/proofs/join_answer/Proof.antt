@@ -1,4 +1,4 @@
--- `join_answer` meets its contract: where a file is refused that is the answer, else both are allowed and their own tests decide.
+-- `join_answer` meets its contract: where a file is refused that is the answer, else both are allowed and the tests of the pair decide.
 -- Assumes nothing.
 use mathlib.Core.Path.{_≡_, sym, _∙_}
 use denote.Ref.{now}

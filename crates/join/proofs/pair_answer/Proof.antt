@@ -1,23 +1,19 @@
 -- `pair_answer` meets its contract. The loop's invariant: none of the first i pairs of records has a fault.
 -- Assumes nothing.
-use Prim.Native.Nat.{ℕ, _+_, _-_, _*_, _≤_, _<_}
+use Prim.Native.Nat.{_+_, _-_, _*_, _≤_, _<_}
 use mathlib.Core.Path.{_≡_, refl, sym, ap₂, _∙_}
-use mathlib.Core.List.{List}
 use native.Mathlib.Omega.{arith}
 use lib.ListN.{length}
 use denote.Ref.{now}
 use Rattle.files.specs.Reading.{firstFault}
-use Rattle.files.specs.SurveyFile.{SURVEY-HEADER, RECORD, countOf, recordAt}
+use Rattle.files.specs.SurveyFile.{SURVEY-HEADER, RECORD, countOf}
 use Rattle.files.specs.declared.Reading.the-variants.{Taken}
 use Rattle.files.proofs.Faults.{clear-more, fault-at}
-use Rattle.join.specs.Join.{joinFault, pairFaults}
+use Rattle.join.specs.Join.{joinFault, pairFault, pairFaults}
 use Rattle.join.proofs.Pairs.{count-differs, count-alike}
 use Rattle.join.proofs.pair_answer.Statement.{statement}
 use Rattle.join.proofs.pair_answer.Tie as tie
 use borrow.Author.Needs.{needs}
-
-abbrev fault : (first second : List ℕ) (i : ℕ) → ℕ
-fault first second i = joinFault (recordAt first i) (recordAt second i)
 
 abbrev Inv-loop : tie.InvT-loop
 Inv-loop first second count answer₀ i₀ answer i = (i ≤ count) × (answer ≡ Taken) × (firstFault 1 (pairFaults first second i) ≡ Taken)
@@ -62,7 +58,7 @@ join-fault-requires c κs = search needs
 
 -- the answer of a turn is the fault of its pair
 found : (c : tie.After-join-fault Inv-loop μ-loop) → let l = c .before .before .before .before in let a = l .before .before .before .before .before .before .args in
-    c .join-fault .result ≡ fault (now (a .first)) (now (a .second)) (l .loop .i)
+    c .join-fault .result ≡ pairFault (now (a .first)) (now (a .second)) (l .loop .i)
 found c = c .join-fault .ensures ∙ ap₂ joinFault (c .before .before .record-at .ensures) (c .before .record-at2 .ensures)
 
 -- the counts are alike
@@ -83,8 +79,8 @@ loop-again c =
     let j = c .before in
     let l = j .before .before .before .before in
     let a = l .before .before .before .before .before .before .args in
-    let good : fault (now (a .first)) (now (a .second)) (l .loop .i) ≡ 0 = sym (found j) ∙ c .if2 .left in
-    (omega arith, l .loop .inv .1, clear-more (fault (now (a .first)) (now (a .second))) 1 (l .loop .i) (l .loop .inv .2) good)
+    let good : pairFault (now (a .first)) (now (a .second)) (l .loop .i) ≡ 0 = sym (found j) ∙ c .if2 .left in
+    (omega arith, l .loop .inv .1, clear-more (pairFault (now (a .first)) (now (a .second))) 1 (l .loop .i) (l .loop .inv .2) good)
 
 returns-2 : tie.Need-returns-2 Inv-loop μ-loop
 returns-2 c =
@@ -100,7 +96,7 @@ returns-3 c =
     let counts = l .before .before in
     let a = counts .before .before .before .before .args in
     let within : l .loop .i < countOf (now (a .first)) = omega (arith, counts .before .count-of .ensures .0) in
-    sym (fault-at (fault (now (a .first)) (now (a .second))) 1 (l .loop .i) (countOf (now (a .first))) (j .join-fault .result) within (l .loop .inv .2) (sym (found j)) (c .if2 .taken)) ∙ sym (count-alike _ _ (alike (l .before)))
+    sym (fault-at (pairFault (now (a .first)) (now (a .second))) 1 (l .loop .i) (countOf (now (a .first))) (j .join-fault .result) within (l .loop .inv .2) (sym (found j)) (c .if2 .taken)) ∙ sym (count-alike _ _ (alike (l .before)))
 
 pub pair-answer-spec : {M : Type 1} → statement M
 pair-answer-spec =

@@ -1,28 +1,23 @@
 -- `put_joined` meets its contract. The loop's invariant: behind the header the first i joined records are put.
 -- Assumes nothing.
-use Prim.Native.Nat.{ℕ, _+_, _-_, _*_, _≤_, _<_}
+use Prim.Native.Nat.{_+_, _-_, _*_, _≤_, _<_}
 use mathlib.Core.Path.{_≡_, ap₂, _∙_}
-use mathlib.Core.List.{List, []}
+use mathlib.Core.List.{[]}
 use native.Mathlib.Omega.{arith}
 use lib.ListN.{length}
 use lib.Seq.{paste, paste-zero, length-paste}
 use denote.Ref.{now}
 use borrow.Author.Needs.{needs}
-use Rattle.member.specs.declared.record.Member.{Member}
-use Rattle.files.specs.SurveyFile.{SURVEY-HEADER, RECORD, countOf, recordAt}
-use Rattle.join.specs.Join.{joinedMember}
+use Rattle.files.specs.SurveyFile.{SURVEY-HEADER, RECORD, countOf}
+use Rattle.join.specs.Join.{joinedMember, joinedAt}
 use Rattle.join.specs.SurveyBytes.{headBytes}
 use Rattle.join.proofs.Pairs.{length-output}
 use Rattle.join.proofs.Surveys.{records, length-records, record-put, survey-put}
 use Rattle.join.proofs.put_joined.Statement.{statement}
 use Rattle.join.proofs.put_joined.Tie as tie
 
--- the joined record of index i
-abbrev at : (first second : List ℕ) (i : ℕ) → Member
-at first second i = joinedMember (recordAt first i) (recordAt second i)
-
 abbrev Inv-loop : tie.InvT-loop
-Inv-loop out₀ first second count i₀ out i = (i ≤ count) × (out ≡ paste out₀ SURVEY-HEADER (records (at first second) i) (RECORD * i))
+Inv-loop out₀ first second count i₀ out i = (i ≤ count) × (out ≡ paste out₀ SURVEY-HEADER (records (joinedAt first second) i) (RECORD * i))
 
 abbrev μ-loop : tie.MeasureT-loop
 μ-loop out₀ first second count i₀ out i = count - i
@@ -43,9 +38,9 @@ same c =
     let n = h .before .before in
     let s = n .before .before .before .before in
     let i = c .loop .i in
-    let put = records (at (now (s .args .first)) (now (s .args .second))) i in
+    let put = records (joinedAt (now (s .args .first)) (now (s .args .second))) i in
     rw (c .loop .inv .1)
-    (length-paste (h .put-head .last .0) SURVEY-HEADER put (RECORD * i) (omega (arith, c .loop .inv .0, n .count-of .ensures .0, headed h, s .pre .2)) (omega (arith, length-records (at (now (s .args .first)) (now (s .args .second))) i)) ∙ headed h)
+    (length-paste (h .put-head .last .0) SURVEY-HEADER put (RECORD * i) (omega (arith, c .loop .inv .0, n .count-of .ensures .0, headed h, s .pre .2)) (omega (arith, length-records (joinedAt (now (s .args .first)) (now (s .args .second))) i)) ∙ headed h)
 
 loop-holds : tie.Need-loop-holds Inv-loop μ-loop
 loop-holds c = let head = c .before .before .put-head .last .0 in (omega arith, paste-zero head SURVEY-HEADER [])
@@ -92,7 +87,7 @@ loop-again c =
     let h = l .before .before .before .before in
     let s = h .before .before .before .before .before .before in
     let joined = m .joined-member .ensures ∙ ap₂ joinedMember (m .before .before .record-at .ensures) (m .before .record-at2 .ensures) in
-    (omega arith, rw (put .put-record .ensures, l .before .loop .inv .1, joined) (record-put (at (now (s .args .first)) (now (s .args .second))) (h .put-head .last .0) (l .before .loop .i) (omega (arith, headed h, s .pre .2))))
+    (omega arith, rw (put .put-record .ensures, l .before .loop .inv .1, joined) (record-put (joinedAt (now (s .args .first)) (now (s .args .second))) (h .put-head .last .0) (l .before .loop .i) (omega (arith, headed h, s .pre .2))))
 
 mul-result : tie.Need-mul-result Inv-loop μ-loop
 mul-result c = record { fits = omega (arith, c .before .before .before .before .before .before .count-of .ensures .1) }
@@ -114,7 +109,7 @@ returns c =
     let count = n .count-of .ensures .0 in
     let ended : l .loop .i ≡ countOf first = omega (arith, count) in
     let head : h .put-head .last .0 ≡ paste (s .args .out .now) 0 (headBytes (countOf first)) SURVEY-HEADER = h .put-head .ensures ∙ rw count in
-    (omega (arith, count, length-output first second), rw (l .loop .inv .1, ended, head) (survey-put (at first second) (s .args .out .now) (countOf first)))
+    (omega (arith, count, length-output first second), rw (l .loop .inv .1, ended, head) (survey-put (joinedAt first second) (s .args .out .now) (countOf first)))
 
 pub put-joined-spec : {M : Type 1} → statement M
 put-joined-spec =

@@ -1,6 +1,6 @@
 -- `put_number` meets its contract. The loop's invariant: the first i bytes are put, and what is left of the number has the bytes that are left.
 -- Assumes nothing.
-use Prim.Native.Nat.{suc, _+_, _-_, _≤_, _<_}
+use Prim.Native.Nat.{suc, _-_, _≤_, _<_}
 use mathlib.Core.Path.{_≡_}
 use native.Mathlib.Numerals.{add-one}
 use native.Mathlib.Omega.{arith}

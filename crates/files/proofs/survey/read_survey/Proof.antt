@@ -23,25 +23,19 @@ returns c =
     let e = c .refused .ensures .0 ∙ sym (headed-first b _ (sym (c .before .before .header-fault .ensures)) (c .before .if1 .taken)) in
     read-as b (c .refused .result .answer) (c .refused .result .survey) e (rw (c .refused .ensures .0) (c .refused .ensures .1))
 
-shared-slice-read-wide : tie.Need-shared-slice-read-wide
-shared-slice-read-wide c = let h = headed-survey (now (c .before .before .before .before .args .bytes)) (sym (c .before .before .header-fault .ensures) ∙ c .before .if1 .left) in omega (arith, h .sized)
-
-wide-requires : tie.Need-wide-requires
-wide-requires c κs = search needs
-
-cast-count : tie.Need-cast-count
-cast-count c = search needs
+count-of-requires : tie.Need-count-of-requires
+count-of-requires c κs = let h = headed-survey (now (c .before .before .before .args .bytes)) (sym (c .before .header-fault .ensures) ∙ c .if1 .left) in omega (arith, h .sized)
 
 records-answer-requires : tie.Need-records-answer-requires
-records-answer-requires c κs = let h = headed-survey (now (c .before .before .before .before .before .args .bytes)) (sym (c .before .before .before .header-fault .ensures) ∙ c .before .before .if1 .left) in omega (arith, h .sized, c .wide .ensures .0)
+records-answer-requires c κs = let h = headed-survey (now (c .before .before .before .before .args .bytes)) (sym (c .before .before .header-fault .ensures) ∙ c .before .if1 .left) in omega (arith, h .sized, c .count-of .ensures .0)
 
 enum-told : tie.Need-enum-told
 enum-told c = search needs
 
 members-of-requires : tie.Need-members-of-requires
 members-of-requires c κs =
-    let h = headed-survey (now (c .before .before .before .before .before .before .before .before .args .bytes)) (sym (c .before .before .before .before .before .before .header-fault .ensures) ∙ c .before .before .before .before .before .if1 .left) in
-    let w = c .before .before .before .wide .ensures .0 in
+    let h = headed-survey (now (c .before .before .before .before .before .before .before .args .bytes)) (sym (c .before .before .before .before .before .header-fault .ensures) ∙ c .before .before .before .before .if1 .left) in
+    let w = c .before .before .before .count-of .ensures .0 in
     (omega (arith, h .count, w), omega (arith, h .sized, w))
 
 enum-told-2 : tie.Need-enum-told-2
@@ -53,17 +47,17 @@ refused-requires-2 c κs = search needs
 returns-2 : tie.Need-returns-2
 returns-2 c =
     let w = c .before .before .before .before in
-    let b = now (w .before .before .before .before .before .args .bytes) in
-    let clear = sym (w .before .before .before .header-fault .ensures) ∙ w .before .before .if1 .left in
-    let e = rw (w .wide .ensures .0) at (c .before .before .before .records-answer .ensures) in
-    read-as b (c .before .before .before .records-answer .result) _ (e ∙ sym (headed-clear b clear)) (rw (c .before .enum-told .given .1, c .members-of .ensures, w .wide .ensures .0))
+    let b = now (w .before .before .before .before .args .bytes) in
+    let clear = sym (w .before .before .header-fault .ensures) ∙ w .before .if1 .left in
+    let e = rw (w .count-of .ensures .0) at (c .before .before .before .records-answer .ensures) in
+    read-as b (c .before .before .before .records-answer .result) _ (e ∙ sym (headed-clear b clear)) (rw (c .before .enum-told .given .1, c .members-of .ensures, w .count-of .ensures .0))
 
 returns-3 : tie.Need-returns-3
 returns-3 c =
     let w = c .before .before .before .before in
-    let b = now (w .before .before .before .before .before .args .bytes) in
-    let clear = sym (w .before .before .before .header-fault .ensures) ∙ w .before .before .if1 .left in
-    let e = rw (w .wide .ensures .0) at (c .before .before .before .records-answer .ensures) in
+    let b = now (w .before .before .before .before .args .bytes) in
+    let clear = sym (w .before .before .header-fault .ensures) ∙ w .before .if1 .left in
+    let e = rw (w .count-of .ensures .0) at (c .before .before .before .records-answer .ensures) in
     read-as b (c .refused2 .result .answer) (c .refused2 .result .survey) (c .refused2 .ensures .0 ∙ e ∙ sym (headed-clear b clear)) (rw (c .refused2 .ensures .0, c .before .enum-told2 .given .1) (c .refused2 .ensures .1))
 
 pub read-survey-spec : {M : Type 1} → statement M
@@ -74,9 +68,7 @@ read-survey-spec =
     header-fault-requires
     refused-requires
     returns
-    shared-slice-read-wide
-    wide-requires
-    cast-count
+    count-of-requires
     records-answer-requires
     enum-told
     members-of-requires

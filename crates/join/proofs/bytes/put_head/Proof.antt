@@ -3,9 +3,7 @@
 use mathlib.Core.Path.{_≡_, _∙_}
 use native.Mathlib.Omega.{arith}
 use lib.ListN.{length, set, length-set}
-use lib.Seq.{length-paste}
 use borrow.Author.Needs.{needs}
-use Rattle.files.specs.Words.{bytesOf}
 use Rattle.join.proofs.Surveys.{head-put}
 use Rattle.join.proofs.bytes.put_head.Statement.{statement}
 use Rattle.join.proofs.bytes.put_head.Tie as tie

@@ -1,30 +1,20 @@
 -- `join_fault` meets its contract. The loop's invariant: `agreed` and `close` are the tests of the fields passed.
 -- Assumes nothing.
-use Prim.Native.Nat.{ℕ, _-_, _≤_}
+use Prim.Native.Nat.{_-_, _≤_}
 use mathlib.Core.Path.{_≡_, refl, sym, _∙_}
-use mathlib.Core.Bool.{Bool}
 use native.Mathlib.Numerals.{add-one}
 use native.Mathlib.Omega.{arith}
 use borrow.Author.Needs.{needs}
 use borrow.Author.Tests.{not-true, not-false}
 use Rattle.section.specs.Choose.{all}
-use Rattle.member.specs.Fields.{FIELDS, field}
-use Rattle.member.specs.declared.record.Member.{Member}
-use Rattle.join.specs.Rule.{agrees, near}
-use Rattle.join.specs.Join.{ruleAt}
+use Rattle.member.specs.Fields.{FIELDS}
+use Rattle.join.specs.Join.{fieldAgrees, fieldNear}
 use Rattle.join.proofs.Records.{must-agree-first, too-far-next, no-fault}
 use Rattle.join.proofs.record.join_fault.Statement.{statement}
 use Rattle.join.proofs.record.join_fault.Tie as tie
 
--- the tests of the first f fields
-abbrev agreedTo : (m n : Member) (f : ℕ) → Bool
-agreedTo m n f = all (λ k. agrees (ruleAt m n k) (field m k) (field n k)) f
-
-abbrev closeTo : (m n : Member) (f : ℕ) → Bool
-closeTo m n f = all (λ k. near (ruleAt m n k) (field m k) (field n k)) f
-
 abbrev Inv-loop : tie.InvT-loop
-Inv-loop m n kind code agreed₀ close₀ f₀ agreed close f = (f ≤ FIELDS) × (agreed ≡ agreedTo m n f) × (close ≡ closeTo m n f)
+Inv-loop m n kind code agreed₀ close₀ f₀ agreed close f = (f ≤ FIELDS) × (agreed ≡ all (fieldAgrees m n) f) × (close ≡ all (fieldNear m n) f)
 
 abbrev μ-loop : tie.MeasureT-loop
 μ-loop m n kind code agreed₀ close₀ f₀ agreed close f = FIELDS - f

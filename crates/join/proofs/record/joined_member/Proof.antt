@@ -6,21 +6,15 @@ use mathlib.Core.List.{List, _++_, append-nil}
 use native.Mathlib.Omega.{arith}
 use lib.ListN.{replicate}
 use borrow.Author.Needs.{needs}
-use Rattle.member.specs.Fields.{FIELDS, field}
-use Rattle.member.specs.declared.record.Member.{Member}
+use Rattle.member.specs.Fields.{FIELDS}
 use Rattle.files.specs.Words.{each}
 use Rattle.files.proofs.Each.{store-each}
-use Rattle.join.specs.Rule.{joinedNumber}
-use Rattle.join.specs.Join.{ruleAt, joinedMember}
+use Rattle.join.specs.Join.{joinedField, joinedMember}
 use Rattle.join.proofs.record.joined_member.Statement.{statement}
 use Rattle.join.proofs.record.joined_member.Tie as tie
 
--- the joined number of a field
-abbrev at : (m n : Member) (f : ℕ) → ℕ
-at m n f = joinedNumber (ruleAt m n f) (field m f) (field n f)
-
 abbrev Inv-loop : tie.InvT-loop
-Inv-loop m n kind code fields₀ f₀ fields f = (f ≤ FIELDS) × (fields ≡ each (at m n) f ++ replicate (FIELDS - f) 0)
+Inv-loop m n kind code fields₀ f₀ fields f = (f ≤ FIELDS) × (fields ≡ each (joinedField m n) f ++ replicate (FIELDS - f) 0)
 
 abbrev μ-loop : tie.MeasureT-loop
 μ-loop m n kind code fields₀ f₀ fields f = FIELDS - f
@@ -69,7 +63,7 @@ loop-again c =
     let rule = c .before .before .before in
     let l = rule .before .before in
     let a = l .before .before .before .args in
-    (omega arith, rw (l .loop .inv .1, c .joined-number .ensures, rule .rule-of .ensures) (store-each (at (a .t1) (a .t2)) FIELDS (l .loop .f) 0 (omega arith)))
+    (omega arith, rw (l .loop .inv .1, c .joined-number .ensures, rule .rule-of .ensures) (store-each (joinedField (a .t1) (a .t2)) FIELDS (l .loop .f) 0 (omega arith)))
 
 returns : tie.Need-returns Inv-loop μ-loop
 unfolding joinedMember
