@@ -209,6 +209,10 @@ fn what_must_agree() {
     }
     assert_eq!(one(STRINGER, with(STRINGER, &[(SECTION, 5)])), Err(18), "the code alone");
     assert_eq!(one(with(STRINGER, &[(SECTION, 5)]), STRINGER), Err(18), "the code alone");
+    // Spacing and truss height, which a cross beam has not, are too far apart: that is 19, later.
+    let beam = [2, 4, 1000, 0, 200, 0, 500, 2, 5, 20, 0, 0, 4, 0, 0, 0];
+    assert_eq!(one(CHORD, beam), Err(18), "the kind alone");
+    assert_eq!(one(beam, CHORD), Err(18), "the kind alone");
 }
 
 /// In a record kinds or codes that differ are 18 whatever else differs.

@@ -49,8 +49,9 @@ use Field::*;
 const MEANS: [Field; 10] =
     [Span, Spacing, TrussHeight, Diameter, Side, Thickness, Area, Rot, Loss, DeadLoad];
 
-/// Those that must agree. Kinds that differ have other fields that do, so 18 is theirs as well.
-const SAME: [Field; 14] = [
+/// Those that must agree.
+const SAME: [Field; 15] = [
+    Kind,
     Species,
     FromSupport,
     Code,
@@ -243,8 +244,8 @@ fn written(wrong: Option<Wrong>, call: &Join, first: &[Words], second: &[Words])
     head.chain(records.iter().flatten().flat_map(|word| word.to_le_bytes())).collect()
 }
 
-/// The records of a pair of surveys, as they are matched; none where a kind or a section of the
-/// first has no fields, which only files that are refused have.
+/// The records of a pair of surveys, as they are matched; none where a section of the first has no
+/// fields, which only files that are refused have.
 fn matched(wrong: Option<Wrong>, call: &Join) -> [Vec<Words>; 2] {
     let mut ends = [raw(&call.first), raw(&call.second)];
     if ends[0].iter().any(|record| !(1..=5).contains(&record[7])) {

@@ -1,9 +1,11 @@
 //! Records of two measurers that are each acceptable and cannot be joined.
 
 use super::disorder::{disorder, number, numbers, room, Disorder};
-use super::Random;
+use super::survey::member;
+use super::{survey_bytes, Random, Spread};
 use crate::join::{rule, Rule};
-use crate::layout::{Limit, Words};
+use crate::layout::{Limit, Words, KIND, S6, SECTION, SPACING, TRUSS_HEIGHT};
+use crate::reader;
 
 /// How two records cannot be joined.
 #[derive(Clone, Copy, Debug, PartialEq, Eq, PartialOrd, Ord)]
@@ -69,6 +71,35 @@ fn same_number(random: &mut Random, second: &mut Words) -> bool {
     number(random, second, &same)
 }
 
+/// A sawn cross beam as a chord, or a chord as such a beam, with the same numbers: of all that must
+/// agree only the kind does not, as of no other two kinds. False where no survey has that record.
+fn kind_alone(random: &mut Random, second: &mut Words) -> bool {
+    const CROSS_BEAM: u16 = 2;
+    const CHORD: u16 = 3;
+    let mut other = *second;
+    match (second[KIND], second[SECTION]) {
+        (CROSS_BEAM, 2) => {
+            let chord = member(random, Spread::Usual, CHORD);
+            [KIND, SPACING, TRUSS_HEIGHT].iter().for_each(|&word| other[word] = chord[word]);
+        }
+        (CHORD, 2) => {
+            other[KIND] = CROSS_BEAM;
+            [SPACING, TRUSS_HEIGHT, S6].iter().for_each(|&word| other[word] = 0);
+        }
+        _ => return false,
+    }
+    let accepted = reader::records(&survey_bytes(&[other])).is_ok();
+    if accepted {
+        *second = other;
+    }
+    accepted
+}
+
+fn kind(random: &mut Random, first: &mut Words, second: &mut Words) -> bool {
+    (!random.once_in(3) && kind_alone(random, second))
+        || disorder(random, first, second, Disorder::Kind)
+}
+
 /// Changes the second of two records that can be joined so that they cannot, each acceptable still;
 /// false where it cannot be so changed.
 pub fn disagree(
@@ -81,7 +112,7 @@ pub fn disagree(
         Disagreement::Number => same_number(random, second),
         Disagreement::Species => disorder(random, first, second, Disorder::Species),
         Disagreement::Section => disorder(random, first, second, Disorder::Section),
-        Disagreement::Kind => disorder(random, first, second, Disorder::Kind),
+        Disagreement::Kind => kind(random, first, second),
         Disagreement::Size => size(random, first, second),
         Disagreement::SizeAndNumber => size(random, first, second) && same_number(random, second),
     }
