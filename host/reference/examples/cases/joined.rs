@@ -108,6 +108,7 @@ fn codes(script: &mut Script) {
         [usual(7, 2), usual(1, 2)],
         [usual(5, 4), usual(6, 4)],
         [usual(3, 2), usual(4, 3)],
+        [usual(3, 2), usual(2, 2)],
         [usual(1, 1), usual(2, 1)],
     ] {
         join(script, &[first], &[second]);
