@@ -136,12 +136,13 @@ impl Refusal {
                  grow"
             }
             (18, _) => {
-                "the records differ in what must agree: all but span, spacing, section sizes, \
-                 truss height, losses, dead load and any rot but a deck's"
+                "the two records differ in what must agree: kind, species, section code, panel \
+                 length, distance from the support, tiers, pieces, cuts, dowel type and diameter, \
+                 joint part, chord whole, a deck's boards and its rot"
             }
             (19, _) => {
-                "the records are too far apart: spans may differ by 5 cm, spacing, section sizes, \
-                 truss height and rot by 1"
+                "the two records are too far apart: a span, or a cross beam's truss spacing, may \
+                 differ by 5 cm, and spacing, section sizes, truss height and rot by 1"
             }
             _ => NO_WORDS,
         }

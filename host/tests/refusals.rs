@@ -159,13 +159,14 @@ fn two_surveys_that_cannot_be_joined() {
     let refusal = |number, place| Refusal { file: Which::Survey, number, place };
     let counts = "survey refused, number 18: the two surveys have different counts of members";
     assert_eq!(refusal(18, 0).to_string(), counts);
-    let words =
-        "survey refused, number 18 at member 3: the records differ in what must agree: all \
-                 but span, spacing, section sizes, truss height, losses, dead load and any rot but \
-                 a deck's";
+    let words = "survey refused, number 18 at member 3: the two records differ in what must \
+                 agree: kind, species, section code, panel length, distance from the support, \
+                 tiers, pieces, cuts, dowel type and diameter, joint part, chord whole, a deck's \
+                 boards and its rot";
     assert_eq!(refusal(18, 3).to_string(), words);
-    let words = "survey refused, number 19 at member 1: the records are too far apart: spans may \
-                 differ by 5 cm, spacing, section sizes, truss height and rot by 1";
+    let words = "survey refused, number 19 at member 1: the two records are too far apart: a \
+                 span, or a cross beam's truss spacing, may differ by 5 cm, and spacing, section \
+                 sizes, truss height and rot by 1";
     assert_eq!(refusal(19, 1).to_string(), words);
     let words = "survey refused, number 14: the output is too short for the joined survey";
     assert_eq!(refusal(14, 0).to_string(), words);
