@@ -39,7 +39,7 @@ fn section_rule(code: u16, word: usize) -> Rule {
 }
 
 /// How this field of a record is joined: "Kinds, species, codes, x, .. A and B (deck rot too) must
-/// agree; for kind 7 h must too." So do those that the record does not use, being 0.
+/// agree; for kind 7 h must too." What a record does not use is 0 in both, and in the joined one.
 pub fn rule(record: &Words, word: usize) -> Rule {
     match word {
         SPAN => OF_SPAN,

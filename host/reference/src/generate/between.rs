@@ -171,7 +171,7 @@ pub(super) fn refused(random: &mut Random, sound: &[Vec<Words>; 2], i: usize) ->
 }
 
 /// A record of one end before its predecessor, in each way: 16 in its own turn, which is before the
-/// second survey's refusals and before 15.
+/// second survey's refusals and before the two are compared.
 pub(super) fn misplaced(
     random: &mut Random,
     sound: &[Vec<Words>; 2],
