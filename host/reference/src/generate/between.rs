@@ -104,37 +104,43 @@ pub fn file_as_they_stand(random: &mut Random, records: &[Words]) -> Vec<u8> {
     survey_bytes_of(version_of(random, records), records)
 }
 
-pub(super) fn versions_of(random: &mut Random, ends: &[Vec<Words>; 2]) -> [u16; 2] {
+fn versions_of(random: &mut Random, ends: &[Vec<Words>; 2]) -> [u16; 2] {
     ends.each_ref().map(|records| version_of(random, records))
 }
 
 /// The files of two surveys in these versions and their refusal.
-pub(super) fn pair(
-    ends: &[Vec<Words>; 2],
-    versions: [u16; 2],
-    number: u64,
-    place: u64,
-) -> DamagedPair {
+fn pair(ends: &[Vec<Words>; 2], versions: [u16; 2], number: u64, place: u64) -> DamagedPair {
     let [first, second] = [0, 1].map(|end| survey_bytes_of(versions[end], &ends[end]));
     DamagedPair { first, second, number, place }
 }
 
-/// Not in order at this record, each way that it can be; often all behind it are not either.
-fn disordered(random: &mut Random, sound: &[Vec<Words>; 2], i: usize) -> Vec<DamagedPair> {
+/// Changes two acceptable records so that they cannot be taken together; false where they cannot be
+/// changed in this way.
+pub(super) type Change<W> = fn(&mut Random, &mut Words, &mut Words, W) -> bool;
+
+/// The two records at this place so changed, each way that they can be, with the way's number; all
+/// behind them often too.
+pub(super) fn unfit<W: Copy>(
+    random: &mut Random,
+    sound: &[Vec<Words>; 2],
+    i: usize,
+    (ways, change): (&[W], Change<W>),
+    number: fn(W) -> u64,
+) -> Vec<DamagedPair> {
     let mut all = Vec::new();
-    for way in Disorder::ALL {
+    for &way in ways {
         let [mut first, mut second] = sound.clone();
-        if !disorder(random, &mut first[i], &mut second[i], way) {
+        if !change(random, &mut first[i], &mut second[i], way) {
             continue;
         }
         if random.once_in(2) {
             for behind in i + 1..first.len() {
-                let way = *random.pick(&Disorder::ALL);
-                disorder(random, &mut first[behind], &mut second[behind], way);
+                let way = *random.pick(ways);
+                change(random, &mut first[behind], &mut second[behind], way);
             }
         }
         let ends = [first, second];
-        all.push(pair(&ends, versions_of(random, &ends), 15, i as u64 + 1));
+        all.push(pair(&ends, versions_of(random, &ends), number(way), i as u64 + 1));
     }
     all
 }
@@ -194,16 +200,22 @@ pub(super) fn misplaced(
 }
 
 /// Different counts, whatever the records.
-fn counted(random: &mut Random, sound: &[Vec<Words>; 2], i: usize) -> Vec<DamagedPair> {
+pub(super) fn counted<W: Copy>(
+    random: &mut Random,
+    sound: &[Vec<Words>; 2],
+    i: usize,
+    (ways, change): (&[W], Change<W>),
+    number: u64,
+) -> Vec<DamagedPair> {
     let mut all = Vec::new();
     for end in [0, 1] {
         let mut ends = sound.clone();
         ends[end].truncate(i);
         if random.once_in(2) {
-            let [first, second] = &mut ends;
-            disorder(random, &mut first[0], &mut second[0], Disorder::Sounder);
+            let ([first, second], way) = (&mut ends, *random.pick(ways));
+            change(random, &mut first[0], &mut second[0], way);
         }
-        all.push(pair(&ends, versions_of(random, sound), 15, 0));
+        all.push(pair(&ends, versions_of(random, &ends), number, 0));
     }
     all
 }
@@ -214,14 +226,15 @@ pub fn damaged_pairs(random: &mut Random) -> Vec<DamagedPair> {
     let second = worse_survey(random, &first, Wear::SameSpread, 0);
     let free = [first, second];
     let both = [ordered_pair(&free), free];
+    let ways: (&[Disorder], Change<Disorder>) = (&Disorder::ALL, disorder);
     let mut all = Vec::new();
     for i in 0..64 {
         let sound = random.pick(&both);
-        all.extend(disordered(random, sound, i));
+        all.extend(unfit(random, sound, i, ways, |_| 15));
         all.extend(refused(random, sound, i));
         if i > 0 {
             all.extend(misplaced(random, sound, i));
-            all.extend(counted(random, sound, i));
+            all.extend(counted(random, sound, i, ways, 15));
         }
     }
     all

@@ -1,6 +1,6 @@
 //! Joins of two survey files: such as are taken, and such as are refused for every reason.
 
-use super::between::{misplaced, pair, refused, some_files, versions_of, DamagedPair};
+use super::between::{counted, misplaced, refused, some_files, unfit, Change, DamagedPair};
 use super::disagree::{disagree, Disagreement};
 use super::measured::{crossing, two_measured, two_measured_of};
 use super::order::with_version;
@@ -58,42 +58,6 @@ pub fn sound_join(random: &mut Random, turn: usize, members: usize) -> Join {
     Join { first, second, room: enough(random, survey_length(members)) }
 }
 
-/// Records that cannot be joined, each way that they can be such; often those behind them cannot
-/// either.
-fn disagreeing(random: &mut Random, sound: &[Vec<Words>; 2], i: usize) -> Vec<DamagedPair> {
-    let mut all = Vec::new();
-    for way in Disagreement::ALL {
-        let [mut first, mut second] = sound.clone();
-        if !disagree(random, &mut first[i], &mut second[i], way) {
-            continue;
-        }
-        if random.once_in(2) {
-            for behind in i + 1..first.len() {
-                let way = *random.pick(&Disagreement::ALL);
-                disagree(random, &mut first[behind], &mut second[behind], way);
-            }
-        }
-        let ends = [first, second];
-        all.push(pair(&ends, versions_of(random, &ends), way.number(), i as u64 + 1));
-    }
-    all
-}
-
-/// Different counts, whatever the records.
-fn counted(random: &mut Random, sound: &[Vec<Words>; 2], i: usize) -> Vec<DamagedPair> {
-    let mut all = Vec::new();
-    for end in [0, 1] {
-        let mut ends = sound.clone();
-        ends[end].truncate(i);
-        if random.once_in(2) {
-            let ([first, second], way) = (&mut ends, *random.pick(&Disagreement::ALL));
-            disagree(random, &mut first[0], &mut second[0], way);
-        }
-        all.push(pair(&ends, versions_of(random, &ends), 18, 0));
-    }
-    all
-}
-
 /// Files whose header is at fault: short, its mark or version, its count, the length.
 fn no_surveys(random: &mut Random) -> Vec<(Vec<u8>, u64)> {
     let [sound, _] = two_measured(random, Spread::Wide, 2, [IN_ORDER; 2]);
@@ -144,14 +108,15 @@ pub fn damaged_joins(random: &mut Random) -> Vec<DamagedJoin> {
     let members = full_survey(random, Spread::Wide);
     let both =
         [IN_ORDER, FREE_ORDER].map(|version| two_measured_of(random, &members, [version; 2]));
+    let ways: (&[Disagreement], Change<Disagreement>) = (&Disagreement::ALL, disagree);
     let mut pairs = headers(random);
     for i in 0..members.len() {
         let sound = random.pick(&both);
-        pairs.extend(disagreeing(random, sound, i));
+        pairs.extend(unfit(random, sound, i, ways, Disagreement::number));
         pairs.extend(refused(random, sound, i));
         if i > 0 {
             pairs.extend(misplaced(random, sound, i));
-            pairs.extend(counted(random, sound, i));
+            pairs.extend(counted(random, sound, i, ways, 18));
         }
     }
     let mut all = too_short(random);
