@@ -55,14 +55,14 @@ agreeing kind code =
     (choose (eqb code 5) (S3 ∷ []) []))) ++
     choose (eqb kind 7) (HEIGHT ∷ []) []
 
--- the two readings x and y "must agree"
+-- where the two readings x and y "must agree", they do
 abbrev pub agrees : Rule → (x y : ℕ) → Bool
 agrees MustAgree x y = eqb x y
 agrees (MeanUp apart) x y = true
 agrees (MeanDown apart) x y = true
 agrees AnyMeanUp x y = true
 
--- they "may differ by" so much
+-- where they "may differ by" so much, they differ by no more
 abbrev pub near : Rule → (x y : ℕ) → Bool
 near MustAgree x y = true
 near (MeanUp apart) x y = leb x (y + apart) && leb y (x + apart)
