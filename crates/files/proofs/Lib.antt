@@ -1,4 +1,4 @@
--- Cited by other crates: `Surveys`, with the laws of its parts, `Headers`, `Each`, `Faults` and `Tests`.
+-- Cited by other crates: `Surveys`, with the laws of its parts, `Headers`, `Each`, `Faults` and `Tests`; `Numbers` and `Writing`.
 pub mod Tests
 mod Tables
 pub mod Headers

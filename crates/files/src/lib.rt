@@ -1,5 +1,5 @@
 // The numbers and the head of a file, and the survey file: bytes of any length become a survey, or the first fault with its number and
-// place.
+// place. What is written goes into a lent output.
 pub mod answer;
 mod fault;
 pub mod header;
