@@ -8,12 +8,13 @@ use mathlib.Core.Logic.{_⊎_, inl, inr, ⊎-elim}
 use native.Mathlib.Decide.{ℕ-discrete}
 use native.Mathlib.Omega.{arith}
 use lib.Dec.{eqb}
-use Rattle.member.specs.Fields.{KIND, SPAN, DISTANCE, CODE, S1, S2, S3, S4, MU-A, MU-B, FIELDS, field}
+use Rattle.member.specs.Fields.{KIND, SPAN, SPACING, DISTANCE, HEIGHT, DEAD-LOAD, CODE, S1, S2, S3, S4, MU-A, MU-B, FIELDS, field}
 use Rattle.member.specs.Format.{In, holds, used, rangeOf, AllowedMember}
 use Rattle.member.specs.declared.record.Member.{Member}
 use Rattle.member.proofs.Ranges.{same-range, longer-range}
 use Rattle.member.proofs.Wears.{neither-holds, Outside, unlike, no-rot, no-loss}
 use Rattle.files.proofs.Each.{getD-each}
+use Rattle.files.proofs.Tests.{neither}
 use Rattle.join.specs.Rule.{sizeFields, sectionRule, ruleOf}
 use Rattle.join.specs.Join.{ruleAt, joinedField, joinedMember}
 use Rattle.join.specs.Fault.{Agree, Agreed}
@@ -37,25 +38,20 @@ unfolding sectionRule
 outside-agrees f o code = rw (no-size f o code, no-rot f o code, no-loss f o code)
 
 module _ (kind code : ℕ) where
-  pub kind-agrees : ruleOf kind code KIND ≡ MustAgree
+  rest-agrees : (f : ℕ) → Outside f → holds f (SPAN ∷ SPACING ∷ HEIGHT ∷ DEAD-LOAD ∷ []) ≡ false → ruleOf kind code f ≡ MustAgree
   unfolding ruleOf
-  kind-agrees = outside-agrees KIND (inl (omega arith)) code
+  rest-agrees f o e =
+      let (span, a) = neither (eqb f SPAN) _ e in
+      let (spacing, b) = neither (eqb f SPACING) _ a in
+      let (height, c) = neither (eqb f HEIGHT) _ b in
+      let (dead, d) = neither (eqb f DEAD-LOAD) _ c in
+      rw (span, spacing, height, dead) (outside-agrees f o code)
+
+  pub kind-agrees : ruleOf kind code KIND ≡ MustAgree
+  kind-agrees = rest-agrees KIND (inl (omega arith)) refl
 
   pub code-agrees : ruleOf kind code CODE ≡ MustAgree
-  unfolding ruleOf
-  code-agrees = outside-agrees CODE (inl (omega arith)) code
-
-  distance-agrees : ruleOf kind code DISTANCE ≡ MustAgree
-  unfolding ruleOf
-  distance-agrees = outside-agrees DISTANCE (inl (omega arith)) code
-
-  A-agrees : ruleOf kind code MU-A ≡ MustAgree
-  unfolding ruleOf
-  A-agrees = outside-agrees MU-A (inr (omega arith)) code
-
-  B-agrees : ruleOf kind code MU-B ≡ MustAgree
-  unfolding ruleOf
-  B-agrees = outside-agrees MU-B (inr (omega arith)) code
+  code-agrees = rest-agrees CODE (inl (omega arith)) refl
 
 -- fields that must agree
 module _ (m n : Member) (g : Agreed m n) where
@@ -97,7 +93,7 @@ module _ (m n : Member) (g : Agreed m n) where
     -- the joined span is no shorter than the shorter one, so x, which both have, still lies within it
     distance-in-range : Used DISTANCE true → In (rangeOf (field m KIND) (field m CODE) (field (joinedMember m n) SPAN) DISTANCE) (field (joinedMember m n) DISTANCE)
     distance-in-range u =
-        let rule = distance-agrees (field m KIND) (field m CODE) in
+        let rule = rest-agrees (field m KIND) (field m CODE) DISTANCE (inl (omega arith)) refl in
         let same = same-field DISTANCE (omega arith) rule in
         let first = a .range DISTANCE (omega arith) u in
         let second = rw (← same) at (range-second DISTANCE (omega arith) u) in
@@ -133,5 +129,8 @@ module _ (m n : Member) (g : Agreed m n) where
           unused = λ f l u. stays-zero f l (rw (kind-kept, code-kept) at u);
           range = λ f l u. rw (kind-kept, code-kept) (in-range f l (rw (kind-kept, code-kept) at u));
           ordered = λ k.
-              rw (joined-same MU-A (omega arith) (A-agrees _ _), joined-same MU-B (omega arith) (B-agrees _ _)) (a .ordered (rw kind-kept at k));
+              let rule = rest-agrees (field m KIND) (field m CODE) in
+              let above = joined-same MU-A (omega arith) (rule MU-A (inr (omega arith)) refl) in
+              let below = joined-same MU-B (omega arith) (rule MU-B (inr (omega arith)) refl) in
+              rw (above, below) (a .ordered (rw kind-kept at k));
         }
