@@ -42,6 +42,11 @@ pub one-refused : (a b : Reading) (r : Refusal) → orElse a b ≡ Refused r →
 one-refused Taken b r e = inr (refl, e)
 one-refused (Refused q) b r e = inl e
 
+-- two tests and the rest of their row
+pub or-else-row : (a b rest : Reading) → orElse (orElse a b) rest ≡ orElse a (orElse b rest)
+or-else-row Taken b rest = refl
+or-else-row (Refused r) b rest = refl
+
 -- a test, and a row of tests, that finds nothing
 pub or-none : (a : Reading) → orElse a Taken ≡ a
 or-none Taken = refl

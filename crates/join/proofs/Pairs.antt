@@ -15,7 +15,7 @@ use Rattle.files.specs.declared.Reading.the-variants.{Taken, Refused}
 use Rattle.files.specs.declared.Refusal.{Refusal}
 use Rattle.files.specs.declared.output.Written.the-variants.{Bytes}
 use Rattle.files.specs.declared.output.Written.the-variants.{Refused as NotWritten}
-use Rattle.files.proofs.Faults.{refusal, refused-not, both-taken, or-none, test-holds, counts-differ, counts-alike, counts-same}
+use Rattle.files.proofs.Faults.{refusal, both-taken, or-none, or-else-row, test-holds, counts-differ, counts-alike, counts-same}
 use Rattle.join.specs.Join.{pairFaults, pairAnswer, output, joinTests, joined, joinedBytes, joinedOut}
 use Rattle.join.proofs.Surveys.{length-survey}
 
@@ -45,25 +45,21 @@ module _ (first second : List ℕ) where
     pub room-enough : length (output first second) ≤ room
 
   module _ (room : ℕ) where
-    -- the row of tests: after the files' own, or where one of these refuses
+    -- the tests behind the files' own
+    abbrev behind : Reading
+    behind = orElse (pairAnswer first second) (orElse (test 14 (leb (length (output first second)) room)) Taken)
+
+    -- the row of tests: these where both files are taken, else the refusal of one
     pub tests-are : {pair : Reading} → orElse (readSurvey first .answer) (readSurvey second .answer) ≡ Taken →
         pair ≡ orElse (pairAnswer first second) (test 14 (leb (length (output first second)) room)) →
         pair ≡ firstRefusal (joinTests first second room)
-    tests-are t p = p ∙ go (readSurvey first .answer) (readSurvey second .answer) (pairAnswer first second) (test 14 (leb (length (output first second)) room)) t
-      where
-        go : (a b pair enough : Reading) → orElse a b ≡ Taken → orElse pair enough ≡ orElse a (orElse b (orElse pair (orElse enough Taken)))
-        go Taken Taken pair enough e = ap (orElse pair) (sym (or-none enough))
-        go Taken (Refused r) pair enough e = absurd (refused-not (r .number) (r .place) e)
-        go (Refused r) b pair enough e = absurd (refused-not (r .number) (r .place) e)
+    tests-are t p =
+        p ∙ ap (orElse (pairAnswer first second)) (sym (or-none _)) ∙ ap (λ (files : Reading). orElse files behind) (sym t) ∙ or-else-row (readSurvey first .answer) (readSurvey second .answer) behind
 
     pub tests-refuse : (r : Refusal) → orElse (readSurvey first .answer) (readSurvey second .answer) ≡ Refused r →
         orElse (readSurvey first .answer) (readSurvey second .answer) ≡ firstRefusal (joinTests first second room)
-    tests-refuse r = go (readSurvey first .answer) (readSurvey second .answer) _
-      where
-        go : (a b rest : Reading) → orElse a b ≡ Refused r → orElse a b ≡ orElse a (orElse b rest)
-        go Taken Taken rest e = absurd (refused-not (r .number) (r .place) (sym e))
-        go Taken (Refused q) rest e = refl
-        go (Refused q) b rest e = refl
+    tests-refuse r t =
+        t ∙ ap (λ (files : Reading). orElse files behind) (sym t) ∙ or-else-row (readSurvey first .answer) (readSurvey second .answer) behind
 
     pub all-passed : firstRefusal (joinTests first second room) ≡ Taken → Passed room
     all-passed e =

@@ -1,6 +1,6 @@
 -- A rule's tests in plain words, and the number that two readings give: it lies between them.
 -- Assumes nothing.
-use Prim.Native.Nat.{ℕ, _≤_}
+use Prim.Native.Nat.{ℕ, _+_, _*_, _/_, _≤_}
 use mathlib.Core.Path.{_≡_, refl}
 use mathlib.Core.Bool.{true}
 use mathlib.Core.Logic.{inl, inr, ⊎-elim}
@@ -41,25 +41,20 @@ module _ (x y : ℕ) where
   plain-near (MeanDown apart) h = rw (le-leb _ _ (h .0), le-leb _ _ (h .1))
   plain-near AnyMeanUp h = refl
 
+  -- half a unit from the exact mean at most, the two readings on its two sides
+  middle : (n : ℕ) → x + y ≤ 2 * n + 1 → 2 * n ≤ x + y + 1 → LiesBetween x y n
+  middle n low high =
+      elim (decLe x y) [
+        | yes l ↦ inl (omega arith, omega arith)
+        | no g ↦ inr (omega arith, omega arith)
+      ]
+
   -- the mean of two readings lies between them, its odd half up or down
   pub mean-between : (r : Rule) → Agree r x y → LiesBetween x y (joinedNumber r x y)
-  mean-between r h =
-      elim (decLe x y) [
-        | yes l ↦ inl (rising r h l)
-        | no g ↦ inr (falling r h (omega arith))
-      ]
-    where
-      rising : (r : Rule) → Agree r x y → x ≤ y → (x ≤ joinedNumber r x y) × (joinedNumber r x y ≤ y)
-      rising MustAgree h l = (omega arith, omega arith)
-      rising (MeanUp apart) h l = (omega arith, omega arith)
-      rising (MeanDown apart) h l = (omega arith, omega arith)
-      rising AnyMeanUp h l = (omega arith, omega arith)
-
-      falling : (r : Rule) → Agree r x y → y ≤ x → (y ≤ joinedNumber r x y) × (joinedNumber r x y ≤ x)
-      falling MustAgree h l = (omega arith, omega arith)
-      falling (MeanUp apart) h l = (omega arith, omega arith)
-      falling (MeanDown apart) h l = (omega arith, omega arith)
-      falling AnyMeanUp h l = (omega arith, omega arith)
+  mean-between MustAgree h = middle x (omega arith) (omega arith)
+  mean-between (MeanUp apart) h = middle ((x + y + 1) / 2) (omega arith) (omega arith)
+  mean-between (MeanDown apart) h = middle ((x + y) / 2) (omega arith) (omega arith)
+  mean-between AnyMeanUp h = middle ((x + y + 1) / 2) (omega arith) (omega arith)
 
 -- what lies between two numbers of a range lies in it
 pub between-range : (r : Range) (x y n : ℕ) → In r x → In r y → LiesBetween x y n → In r n
