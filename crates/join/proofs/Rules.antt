@@ -1,6 +1,6 @@
 -- A rule's tests in plain words, and the number that two readings give: it lies between them.
 -- Assumes nothing.
-use Prim.Native.Nat.{ℕ, _+_, _*_, _/_, _≤_}
+use Prim.Native.Nat.{ℕ, _+_, _*_, _≤_}
 use mathlib.Core.Path.{_≡_, refl}
 use mathlib.Core.Bool.{true}
 use mathlib.Core.Logic.{inl, inr, ⊎-elim}
@@ -51,10 +51,10 @@ module _ (x y : ℕ) where
 
   -- the mean of two readings lies between them, its odd half up or down
   pub mean-between : (r : Rule) → Agree r x y → LiesBetween x y (joinedNumber r x y)
-  mean-between MustAgree h = middle x (omega arith) (omega arith)
-  mean-between (MeanUp apart) h = middle ((x + y + 1) / 2) (omega arith) (omega arith)
-  mean-between (MeanDown apart) h = middle ((x + y) / 2) (omega arith) (omega arith)
-  mean-between AnyMeanUp h = middle ((x + y + 1) / 2) (omega arith) (omega arith)
+  mean-between MustAgree h = middle _ (omega arith) (omega arith)
+  mean-between (MeanUp apart) h = middle _ (omega arith) (omega arith)
+  mean-between (MeanDown apart) h = middle _ (omega arith) (omega arith)
+  mean-between AnyMeanUp h = middle _ (omega arith) (omega arith)
 
 -- what lies between two numbers of a range lies in it
 pub between-range : (r : Range) (x y n : ℕ) → In r x → In r y → LiesBetween x y n → In r n
