@@ -10,12 +10,12 @@ use native.Mathlib.Omega.{arith}
 use lib.ListN.{length}
 use borrow.Author.Tests.{ne-eqb, lt-leb}
 use Rattle.member.specs.declared.record.Vehicle.{Vehicle}
-use Rattle.files.specs.SurveyFile.{countOf, recordAt}
+use Rattle.surveys.specs.SurveyFile.{countOf, recordAt}
 use Rattle.files.specs.Reading.{firstRefusal}
 use Rattle.files.specs.declared.Reading.the-variants.{Taken, Refused}
 use Rattle.files.specs.declared.Refusal.{Refusal}
 use Rattle.files.proofs.Faults.{refusal, reading-case, failing-named}
-use Rattle.files.proofs.Surveys.{taken-allowed, allowed-taken, named-refused, either-file}
+use Rattle.surveys.proofs.Surveys.{taken-allowed, allowed-taken, named-refused, either-file}
 use Rattle.between.specs.Order.{orderOf}
 use Rattle.between.specs.Between.{betweenTests, betweenList}
 use Rattle.between.specs.Fault.{BothAllowed, MayBeJudged, BetweenFault, no-vehicle, first-refused, second-refused, other-count, not-ordered, short-list}

@@ -16,7 +16,7 @@ use Rattle.member.specs.Wear.{rotFields, lostFields, rots, wears}
 use Rattle.member.specs.declared.record.Member.{Member}
 use Rattle.member.proofs.Wears.{no-rot, no-loss}
 use Rattle.files.specs.Reading.{firstFault}
-use Rattle.files.specs.SurveyFile.{countOf, recordAt}
+use Rattle.surveys.specs.SurveyFile.{countOf, recordAt}
 use Rattle.files.specs.Words.{each}
 use Rattle.files.specs.declared.Reading.the-variants.{Taken}
 use Rattle.files.proofs.Faults.{refusal, all-hold, hold-all, first-failing, counts-differ, counts-alike, counts-same}

@@ -16,14 +16,14 @@ use Rattle.member.specs.declared.record.Vehicle.{Vehicle}
 use Rattle.rating.specs.Judgement.{permittedFor, judgementOf}
 use Rattle.rating.specs.Surveyed.{AllowedSurvey, memberAt, membersOf}
 use Rattle.files.specs.Reading.{orElse, test, firstRefusal}
-use Rattle.files.specs.SurveyFile.{countOf, recordAt, recordsOf, surveyOf, readSurvey}
+use Rattle.surveys.specs.SurveyFile.{countOf, recordAt, recordsOf, surveyOf, readSurvey}
 use Rattle.files.specs.declared.Reading.{Reading}
 use Rattle.files.specs.declared.Reading.the-variants.{Taken, Refused}
 use Rattle.files.specs.declared.Refusal.{Refusal}
 use Rattle.files.proofs.Each.{each-same, length-each}
 use Rattle.files.proofs.Faults.{reading-case, both-taken, or-none, test-holds}
 use Rattle.files.proofs.Tests.{not-none}
-use Rattle.files.proofs.Surveys.{taken-survey, taken-record, taken-count, taken-members, refused-blank}
+use Rattle.surveys.proofs.Surveys.{taken-survey, taken-record, taken-count, taken-members, refused-blank}
 use Rattle.between.specs.Order.{orderAnswer, orderOf}
 use Rattle.between.specs.Between.{pairAnswer, betweenTests, verdictBetween, boundsWritten, betweenAnswered, betweenList}
 use Rattle.between.specs.declared.Between.{Between}

@@ -18,8 +18,8 @@ use Rattle.rating.specs.Judgement.{judgementOf}
 use Rattle.rating.specs.Surveyed.{memberAt, AllowedMembers}
 use Rattle.rating.specs.declared.judging.Verdict.the-variants.{Refuse}
 use Rattle.rating.proofs.Judged.{permitted-falls, figure-falls, bridge-stays-refused, same-places}
-use Rattle.files.specs.Allowed.{AllowedSurveyFile}
-use Rattle.files.specs.SurveyFile.{countOf, recordAt, recordsOf}
+use Rattle.surveys.specs.Allowed.{AllowedSurveyFile}
+use Rattle.surveys.specs.SurveyFile.{countOf, recordAt, recordsOf}
 use Rattle.files.proofs.Each.{length-each, getD-each}
 use Rattle.between.specs.Order.{Ordered, InOrder, LiesBetween}
 use Rattle.between.specs.Between.{permittedIn, verdictIn}

@@ -9,7 +9,7 @@ use Rattle.rating.specs.Judgement.{permittedFor, judgementOf}
 use Rattle.rating.specs.declared.judging.Verdict.{Verdict}
 use Rattle.rating.specs.declared.judging.Verdict.the-variants.{Pass, Refuse}
 use Rattle.files.specs.Reading.{test, firstRefusal}
-use Rattle.files.specs.SurveyFile.{countOf, recordAt, recordsOf, readSurvey}
+use Rattle.surveys.specs.SurveyFile.{countOf, recordAt, recordsOf, readSurvey}
 use Rattle.files.specs.declared.Reading.{Reading}
 use Rattle.files.specs.declared.Reading.the-variants.{Taken, Refused}
 use Rattle.between.specs.Order.{orderOf}

@@ -3,9 +3,9 @@ use Prim.Native.Nat.{ℕ, _+_, _*_, _≤_, _<_}
 use mathlib.Core.Path.{_≡_}
 use mathlib.Core.List.{List}
 use Rattle.member.specs.declared.record.Vehicle.{Vehicle}
-use Rattle.files.specs.Allowed.{AllowedSurveyFile}
-use Rattle.files.specs.Refused.{SurveyRefusal}
-use Rattle.files.specs.SurveyFile.{countOf, recordAt}
+use Rattle.surveys.specs.Allowed.{AllowedSurveyFile}
+use Rattle.surveys.specs.Refused.{SurveyRefusal}
+use Rattle.surveys.specs.SurveyFile.{countOf, recordAt}
 use Rattle.files.specs.declared.Refusal.{Refusal}
 use Rattle.between.specs.Order.{Ordered, OrderedBefore, InOrder}
 

@@ -11,7 +11,7 @@ use Rattle.member.specs.Format.{holds}
 use Rattle.member.specs.Wear.{rots, lostFields, wears, Worn, SpreadKept}
 use Rattle.member.specs.declared.record.Member.{Member}
 use Rattle.files.specs.Reading.{_unless_, firstFault}
-use Rattle.files.specs.SurveyFile.{countOf, recordAt}
+use Rattle.surveys.specs.SurveyFile.{countOf, recordAt}
 use Rattle.files.specs.Words.{each}
 use Rattle.files.specs.declared.Reading.{Reading}
 

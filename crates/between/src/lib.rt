@@ -4,7 +4,7 @@ ghost use mathlib.Core.Path.{_≡_};
 ghost use Prim.Native.Nat.{_<_};
 ghost use lib.ListN.{length};
 ghost use Rattle.member.specs.Format.{AllowedVehicle};
-ghost use Rattle.files.specs.SurveyFile.{readSurvey};
+ghost use Rattle.surveys.specs.SurveyFile.{readSurvey};
 ghost use Rattle.between.specs.Between.{pairAnswer, betweenAnswered, betweenList};
 
 pub mod bounds;
@@ -15,10 +15,10 @@ use files::Reading;
 use files::Refusal;
 use files::answer::or_else;
 use files::answer::test;
-use files::survey::read_survey;
 use member::record::Survey;
 use member::record::Vehicle;
 use order::order_answer;
+use surveys::file::read_survey;
 
 // The vehicle passes for all surveys between the two, for none, or the two ends differ.
 pub enum Between {

@@ -14,7 +14,7 @@ use Rattle.member.specs.Fields.{MOST-AXLES}
 use Rattle.files.specs.Words.{byteAt, Bytes}
 use Rattle.files.specs.Reading.{_unless_, firstOf, isIn}
 use Rattle.files.specs.Header.{versionOf, marked, headerFault}
-use Rattle.files.specs.SurveyFile.{countOf}
+use Rattle.surveys.specs.SurveyFile.{countOf}
 use Rattle.vehicles.specs.VehicleFile.{VEHICLE-HEADER, LONGEST-AXLE, VEHICLE-VERSIONS, axleSize, axlesOf, axleFaults, blankVehicle, vehicleHeader, vehicleAnswer, readVehicleOf, readVehicle}
 use Rattle.vehicles.specs.declared.VehicleRead.{VehicleRead}
 use Rattle.section.proofs.Products.{product-cap}

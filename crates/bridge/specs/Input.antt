@@ -7,7 +7,7 @@ use lib.ListN.{length, take, drop}
 use Rattle.session.specs.Answers.{Outcome}
 use Rattle.session.specs.Calls.{loadFiles}
 use Rattle.files.specs.Words.{Bytes}
-use Rattle.files.specs.SurveyFile.{SURVEY-HEADER, RECORD, countOf}
+use Rattle.surveys.specs.SurveyFile.{SURVEY-HEADER, RECORD, countOf}
 use Rattle.vehicles.specs.VehicleFile.{VEHICLE-HEADER, LONGEST-AXLE}
 
 -- an input too short to hold a count is shorter than 6 as well

@@ -5,10 +5,10 @@ ghost use lib.ListN.{length};
 ghost use Rattle.session.specs.Answers.{loaded};
 ghost use Rattle.session.specs.Calls.{Valid};
 ghost use Rattle.bridge.specs.Input.{ENOUGH, LoadedFrom, surveyLength, loadInput};
-use files::survey::HEADER;
-use files::survey::RECORD;
 use session::AfterLoad;
 use session::load_files;
+use surveys::file::HEADER;
+use surveys::file::RECORD;
 
 // The longest survey and the longest vehicle that a count byte can call for, and one byte more.
 pub const ENOUGH: usize = HEADER

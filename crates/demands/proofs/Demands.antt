@@ -29,17 +29,17 @@ use Rattle.rating.proofs.Judged.{vehicle-load-rises, permitted-falls, member-st
 use Rattle.rating.proofs.Lines.{line-sized, vehicle-load-covers, vehicle-load-rounded-up}
 use Rattle.rating.proofs.Governing.{figure-least, figure-had, governing-within, governing-margin, governing-least, governing-first, margin-difference, rating-decides, rating-margin, judgement-decides}
 use Rattle.rating.proofs.Surveys.{members-counted, members-allowed}
-use Rattle.files.specs.Allowed.{AllowedSurveyFile}
+use Rattle.surveys.specs.Allowed.{AllowedSurveyFile}
 use Rattle.vehicles.specs.Allowed.{AllowedVehicleFile}
-use Rattle.files.specs.Refused.{SurveyRefusal}
+use Rattle.surveys.specs.Refused.{SurveyRefusal}
 use Rattle.vehicles.specs.Refused.{VehicleRefusal}
 use Rattle.files.specs.Reading.{_unless_, isIn}
-use Rattle.files.specs.SurveyFile.{countOf, recordAt, recordsOf, readSurvey, surveyOf}
+use Rattle.surveys.specs.SurveyFile.{countOf, recordAt, recordsOf, readSurvey, surveyOf}
 use Rattle.vehicles.specs.VehicleFile.{VEHICLE-VERSIONS, readVehicle, vehicleOf}
 use Rattle.files.specs.declared.Refusal.{Refusal}
 use Rattle.files.proofs.Tests.{first-is, rows-is, in-range, refutes}
 use Rattle.files.proofs.Faults.{reading-case}
-use Rattle.files.proofs.Surveys as surveys
+use Rattle.surveys.proofs.Surveys as surveys
 use Rattle.vehicles.proofs.Vehicles as vehicles
 use Rattle.between.specs.Fault.{no-vehicle}
 use Rattle.between.proofs.Pairs.{taken-survey-allowed, survey-members}

@@ -4,12 +4,12 @@
 use Prim.Native.Nat.{ℕ}
 use mathlib.Core.Path.{_≡_, refl, ap, _∙_}
 use mathlib.Core.List.{List, [], _∷_}
-use Rattle.files.specs.SurveyFile.{readSurvey}
+use Rattle.surveys.specs.SurveyFile.{readSurvey}
 use Rattle.vehicles.specs.VehicleFile.{VEHICLE-VERSIONS, readVehicle}
-use Rattle.files.specs.Allowed.{AllowedSurveyFile}
+use Rattle.surveys.specs.Allowed.{AllowedSurveyFile}
 use Rattle.vehicles.specs.Allowed.{AllowedVehicleFile}
 use Rattle.files.proofs.Faults.{reading-case}
-use Rattle.files.proofs.Surveys as surveys
+use Rattle.surveys.proofs.Surveys as surveys
 use Rattle.vehicles.proofs.Vehicles as vehicles
 use Rattle.session.specs.Answers.{Outcome, Values}
 use Rattle.session.specs.Calls.{Valid, newSession, loadSurvey, loadVehicle, storedSurvey, storedVehicle, rate, judge}

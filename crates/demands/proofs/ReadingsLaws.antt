@@ -11,9 +11,9 @@ use Rattle.rating.specs.Judgement.{judgementOf}
 use Rattle.rating.specs.declared.judging.Judgement.{Judgement}
 use Rattle.rating.specs.declared.judging.Verdict.{Verdict}
 use Rattle.rating.specs.declared.judging.Verdict.the-variants.{Pass, Refuse}
-use Rattle.files.specs.Allowed.{AllowedSurveyFile}
-use Rattle.files.specs.SurveyFile.{countOf, recordsOf, surveyOf}
-use Rattle.files.proofs.Surveys as surveys
+use Rattle.surveys.specs.Allowed.{AllowedSurveyFile}
+use Rattle.surveys.specs.SurveyFile.{countOf, recordsOf, surveyOf}
+use Rattle.surveys.proofs.Surveys as surveys
 use Rattle.between.specs.Order.{InOrder, LiesBetween}
 use Rattle.between.specs.Between.{verdictBetween, permittedIn, verdictIn, boundsWritten, betweenAnswered, betweenList}
 use Rattle.between.specs.Fault.{MayBeJudged, BetweenFault}

@@ -14,11 +14,11 @@ use Rattle.member.specs.PermittedLoad.{formulaOf}
 use Rattle.rating.specs.Surveyed.{memberAt}
 use Rattle.member.specs.declared.record.Member.{Member}
 use Rattle.member.specs.declared.record.Vehicle.{Vehicle}
-use Rattle.files.specs.Allowed.{AllowedSurveyFile}
+use Rattle.surveys.specs.Allowed.{AllowedSurveyFile}
 use Rattle.vehicles.specs.Allowed.{AllowedVehicleFile}
-use Rattle.files.specs.Refused.{SurveyRefusal}
+use Rattle.surveys.specs.Refused.{SurveyRefusal}
 use Rattle.vehicles.specs.Refused.{VehicleRefusal}
-use Rattle.files.specs.SurveyFile.{recordsOf, surveyOf}
+use Rattle.surveys.specs.SurveyFile.{recordsOf, surveyOf}
 use Rattle.vehicles.specs.VehicleFile.{vehicleOf}
 use Rattle.files.specs.declared.Refusal.{Refusal}
 use Rattle.between.specs.declared.Between.{Between}

@@ -7,7 +7,7 @@ use mathlib.Core.Logic.{_⊎_, _↔_}
 use lib.ListN.{length, getD}
 use Rattle.rating.specs.declared.judging.Verdict.{Verdict}
 use Rattle.rating.specs.declared.judging.Verdict.the-variants.{Pass, Refuse}
-use Rattle.files.specs.SurveyFile.{countOf}
+use Rattle.surveys.specs.SurveyFile.{countOf}
 use Rattle.between.specs.Order.{LiesBetween}
 use Rattle.between.specs.Fault.{BetweenFault, MayBeJudged}
 use Rattle.between.specs.declared.Between.{Between}

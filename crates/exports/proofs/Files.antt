@@ -6,8 +6,8 @@ use mathlib.Core.List.{List}
 use native.Mathlib.Omega.{arith}
 use lib.ListN.{length}
 use Rattle.member.specs.declared.record.Survey.{Survey}
-use Rattle.files.specs.Allowed.{AllowedSurveyFile}
-use Rattle.files.specs.SurveyFile.{countOf, surveyOf}
+use Rattle.surveys.specs.Allowed.{AllowedSurveyFile}
+use Rattle.surveys.specs.SurveyFile.{countOf, surveyOf}
 use Rattle.files.specs.declared.Reading.the-variants.{Taken, Refused}
 use Rattle.files.specs.declared.Refusal.{Refusal}
 use Rattle.session.specs.Answers.{Outcome, loaded, judged, judgeAnswer, refusedBy}

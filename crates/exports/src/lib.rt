@@ -6,7 +6,7 @@ ghost use mathlib.Core.Path.{_≡_};
 ghost use Prim.Native.Nat.{_<_};
 ghost use lib.ListN.{length};
 ghost use Rattle.session.specs.Answers.{judgeAnswer};
-ghost use Rattle.files.specs.SurveyFile.{countOf};
+ghost use Rattle.surveys.specs.SurveyFile.{countOf};
 ghost use Rattle.exports.specs.Loads.{loadsOf, memberLoads, memberList};
 use files::Reading;
 use judgement::Numbers;

@@ -3,8 +3,4 @@ pub mod Reading
 pub mod Answer
 pub mod Writing
 pub mod Header
-pub mod Sequence
-pub mod SurveyFile
-pub mod Allowed
-pub mod OneOrder
 pub mod Refused

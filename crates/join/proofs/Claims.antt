@@ -10,7 +10,7 @@ use Rattle.member.specs.Fields.{KIND, CODE, field}
 use Rattle.member.specs.declared.record.Member.{Member}
 use Rattle.files.specs.Answer.{RefusedAt}
 use Rattle.files.specs.Reading.{firstRefusal}
-use Rattle.files.specs.SurveyFile.{countOf, recordAt}
+use Rattle.surveys.specs.SurveyFile.{countOf, recordAt}
 use Rattle.files.specs.Writing.{onto}
 use Rattle.files.proofs.Writing.{onto-first, onto-beyond, onto-length, written-tests, refused-tests}
 use Rattle.join.specs.Join.{joinedAt, output, joinTests, joined, joinedBytes, joinedOut}

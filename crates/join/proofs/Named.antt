@@ -9,12 +9,12 @@ use native.Mathlib.Omega.{arith}
 use lib.ListN.{length}
 use borrow.Author.Tests.{lt-leb}
 use Rattle.files.specs.Reading.{firstRefusal}
-use Rattle.files.specs.SurveyFile.{countOf, recordAt}
+use Rattle.surveys.specs.SurveyFile.{countOf, recordAt}
 use Rattle.files.specs.declared.Reading.the-variants.{Taken, Refused}
 use Rattle.files.specs.declared.Refusal.{Refusal}
 use Rattle.files.proofs.Each.{length-each, getD-each}
 use Rattle.files.proofs.Faults.{refusal, reading-case, fault-at, taken-none, none-taken, refused-at}
-use Rattle.files.proofs.Surveys.{taken-allowed, allowed-taken, named-refused, either-file}
+use Rattle.surveys.proofs.Surveys.{taken-allowed, allowed-taken, named-refused, either-file}
 use Rattle.join.specs.Join.{pairFault, pairFaults, pairAnswer, output, joinTests}
 use Rattle.join.specs.Fault.{BothAllowed, JoinableBefore, outputLength, Reached, JoinFault, first-refused, second-refused, other-count, not-agreed, too-far, short-output, MayBeJoined}
 use Rattle.join.proofs.Records.{joinable-clear, clear-joinable, not-agreed-fault, too-far-fault, Readings, may-join, do-not-agree, are-far, readings-case}

@@ -9,9 +9,9 @@ use Rattle.member.specs.Fields.{FIELDS, field}
 use Rattle.member.specs.Format.{AllowedMember}
 use Rattle.member.specs.declared.record.Member.{Member}
 use Rattle.member.proofs.Ranges.{number-cap}
-use Rattle.files.specs.Allowed.{AllowedSurveyFile}
+use Rattle.surveys.specs.Allowed.{AllowedSurveyFile}
 use Rattle.files.specs.Header.{versionOf}
-use Rattle.files.specs.SurveyFile.{SURVEY-HEADER, RECORD, countOf, recordAt}
+use Rattle.surveys.specs.SurveyFile.{SURVEY-HEADER, RECORD, countOf, recordAt}
 use Rattle.files.specs.Words.{wordAt, numberAt, bytesOf}
 use Rattle.files.proofs.Each.{each-same}
 use Rattle.files.proofs.Numbers.{FitsIn, number-written, two-bytes-at}

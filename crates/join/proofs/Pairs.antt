@@ -8,7 +8,7 @@ use lib.Dec.{leb}
 use lib.ListN.{length}
 use borrow.Author.Tests.{leb-true, le-leb}
 use Rattle.files.specs.Reading.{firstFault, orElse, test, firstRefusal}
-use Rattle.files.specs.SurveyFile.{SURVEY-HEADER, RECORD, countOf, readSurvey}
+use Rattle.surveys.specs.SurveyFile.{SURVEY-HEADER, RECORD, countOf, readSurvey}
 use Rattle.files.specs.Writing.{writtenAnswer, onto}
 use Rattle.files.specs.declared.Reading.{Reading}
 use Rattle.files.specs.declared.Reading.the-variants.{Taken, Refused}

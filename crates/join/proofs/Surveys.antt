@@ -9,7 +9,7 @@ use lib.ListN.{length, set, drop}
 use lib.Seq.{paste, sets-eq, take-all}
 use Rattle.member.specs.Fields.{FIELDS, field}
 use Rattle.member.specs.declared.record.Member.{Member}
-use Rattle.files.specs.SurveyFile.{SURVEY-HEADER, RECORD}
+use Rattle.surveys.specs.SurveyFile.{SURVEY-HEADER, RECORD}
 use Rattle.files.specs.Words.{bytesOf, inRow}
 use Rattle.files.specs.Writing.{onto}
 use Rattle.files.proofs.Writing.{paste-behind, length-row}

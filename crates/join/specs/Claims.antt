@@ -10,10 +10,10 @@ use Rattle.member.specs.Fields.{KIND, CODE, FIELDS, LAST-KIND, field}
 use Rattle.section.specs.Choose.{choose}
 use Rattle.member.specs.Format.{_‥_, In, holds, used, suits, AllowedMember}
 use Rattle.member.specs.declared.record.Member.{Member}
-use Rattle.files.specs.Allowed.{AllowedSurveyFile}
+use Rattle.surveys.specs.Allowed.{AllowedSurveyFile}
 use Rattle.files.specs.Answer.{Values, RefusedAt}
 use Rattle.files.specs.Header.{versionOf}
-use Rattle.files.specs.SurveyFile.{countOf, recordAt}
+use Rattle.surveys.specs.SurveyFile.{countOf, recordAt}
 use Rattle.join.specs.Fault.{Agree, Agreed, outputLength, JoinFault, MayBeJoined}
 use Rattle.join.specs.Join.{joinFault, joinedMember, joinedAt, joined, joinedOut}
 use Rattle.join.specs.Rule.{ruleOf, goesUp, agreeing, joinedNumber}

@@ -4,9 +4,9 @@ use mathlib.Core.Path.{_≡_}
 use mathlib.Core.List.{List}
 use Rattle.member.specs.Fields.{FIELDS, field}
 use Rattle.member.specs.declared.record.Member.{Member}
-use Rattle.files.specs.Allowed.{AllowedSurveyFile}
-use Rattle.files.specs.Refused.{SurveyRefusal}
-use Rattle.files.specs.SurveyFile.{SURVEY-HEADER, RECORD, countOf, recordAt}
+use Rattle.surveys.specs.Allowed.{AllowedSurveyFile}
+use Rattle.surveys.specs.Refused.{SurveyRefusal}
+use Rattle.surveys.specs.SurveyFile.{SURVEY-HEADER, RECORD, countOf, recordAt}
 use Rattle.files.specs.declared.Refusal.{Refusal}
 use Rattle.join.specs.Join.{ruleAt}
 use Rattle.join.specs.declared.rule.Rule.{Rule}

@@ -9,7 +9,7 @@ use Rattle.member.specs.Fields.{KIND, CODE, FIELDS, field}
 use Rattle.member.specs.declared.record.Member.{Member}
 use Rattle.files.specs.Answer.{Answer}
 use Rattle.files.specs.Reading.{_unless_, firstOf, firstFault, test, firstRefusal}
-use Rattle.files.specs.SurveyFile.{countOf, recordAt, readSurvey}
+use Rattle.surveys.specs.SurveyFile.{countOf, recordAt, readSurvey}
 use Rattle.files.specs.Words.{each}
 use Rattle.files.specs.Writing.{answerBy, bytesBy, onto}
 use Rattle.files.specs.declared.Reading.{Reading}

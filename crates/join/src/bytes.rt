@@ -8,7 +8,7 @@ ghost use mathlib.Core.Path.{_≡_};
 ghost use Prim.Native.Nat.{_+_, _≤_};
 ghost use lib.ListN.{length};
 ghost use lib.Seq.{paste};
-ghost use Rattle.files.specs.SurveyFile.{SURVEY-HEADER, RECORD};
+ghost use Rattle.surveys.specs.SurveyFile.{SURVEY-HEADER, RECORD};
 ghost use Rattle.join.specs.SurveyBytes.{headBytes, recordBytes};
 
 const VERSION: u64 = 1;

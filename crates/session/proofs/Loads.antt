@@ -4,12 +4,12 @@ use Prim.Native.Nat.{ℕ}
 use mathlib.Core.Path.{_≡_, refl, sym, ap, _∙_}
 use mathlib.Core.Bool.{Bool, true, false}
 use mathlib.Core.List.{List, []}
-use Rattle.files.specs.SurveyFile.{readSurvey, surveyOf}
+use Rattle.surveys.specs.SurveyFile.{readSurvey, surveyOf}
 use Rattle.vehicles.specs.VehicleFile.{VEHICLE-VERSIONS, readVehicle, vehicleOf}
 use Rattle.files.specs.declared.Reading.the-variants.{Taken, Refused}
 use Rattle.files.specs.declared.Refusal.{Refusal}
 use Rattle.files.proofs.Faults.{reading-case}
-use Rattle.files.proofs.Surveys as surveys
+use Rattle.surveys.proofs.Surveys as surveys
 use Rattle.vehicles.proofs.Vehicles as vehicles
 use Rattle.session.specs.Answers.{Answer, Values, WithMargin, RefusedAt, refusedBy}
 use Rattle.session.specs.Calls.{loadSurvey, loadVehicle, storedSurvey, storedVehicle}

@@ -12,11 +12,11 @@ use lib.ListN.{replicate}
 use borrow.Author.Tests.{ne-eqb, le-leb, leb-true}
 use Rattle.member.specs.Format.{In, _‥_}
 use Rattle.files.specs.Reading.{_unless_, isIn}
-use Rattle.files.specs.SurveyFile.{readSurvey}
+use Rattle.surveys.specs.SurveyFile.{readSurvey}
 use Rattle.vehicles.specs.VehicleFile.{VEHICLE-VERSIONS, readVehicle}
 use Rattle.files.specs.declared.Reading.the-variants.{Taken, Refused}
 use Rattle.files.specs.declared.Refusal.{Refusal}
-use Rattle.files.specs.declared.SurveyRead.{SurveyRead}
+use Rattle.surveys.specs.declared.SurveyRead.{SurveyRead}
 use Rattle.vehicles.specs.declared.VehicleRead.{VehicleRead}
 use Rattle.files.proofs.Tests.{not-none, none, passed, in-range, range-in}
 use Rattle.vehicles.proofs.Vehicles.{taken-vehicle-allowed}

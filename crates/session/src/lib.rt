@@ -11,8 +11,6 @@ pub mod yard;
 
 use files::Reading;
 use files::Refusal;
-use files::survey::blank_survey;
-use files::survey::read_survey;
 use member::record::MOST_MEMBERS;
 use member::record::Survey;
 use member::record::Vehicle;
@@ -20,6 +18,8 @@ use rating::judging;
 use rating::judging::Judgement;
 use rating::judging::Rating;
 use rating::judging::Verdict;
+use surveys::file::blank_survey;
+use surveys::file::read_survey;
 use vehicles::file::blank_vehicle;
 use vehicles::file::read_vehicle;
 

@@ -6,7 +6,7 @@ use lib.ListN.{length}
 use denote.Ref.{now}
 use borrow.Author.Needs.{needs}
 use Rattle.files.specs.declared.Reading.the-variants.{Taken}
-use Rattle.files.proofs.Surveys.{taken-allowed}
+use Rattle.surveys.proofs.Surveys.{taken-allowed}
 use Rattle.join.proofs.Pairs.{pair-count, length-output, Passed, all-passed, written-given, refusal-given, out-written, out-kept}
 use Rattle.join.proofs.join.Statement.{statement}
 use Rattle.join.proofs.join.Tie as tie

@@ -4,9 +4,9 @@ use mathlib.Core.Path.{_≡_, sym, _∙_}
 use denote.Ref.{now}
 use borrow.Author.Needs.{needs}
 use Rattle.files.specs.Reading.{orElse}
-use Rattle.files.specs.SurveyFile.{readSurvey}
+use Rattle.surveys.specs.SurveyFile.{readSurvey}
 use Rattle.files.proofs.Faults.{both-taken}
-use Rattle.files.proofs.Surveys.{taken-allowed}
+use Rattle.surveys.proofs.Surveys.{taken-allowed}
 use Rattle.join.proofs.Pairs.{tests-are, tests-refuse}
 use Rattle.join.proofs.join_answer.Statement.{statement}
 use Rattle.join.proofs.join_answer.Tie as tie

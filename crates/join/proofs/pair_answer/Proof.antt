@@ -6,7 +6,7 @@ use native.Mathlib.Omega.{arith}
 use lib.ListN.{length}
 use denote.Ref.{now}
 use Rattle.files.specs.Reading.{firstFault}
-use Rattle.files.specs.SurveyFile.{SURVEY-HEADER, RECORD, countOf}
+use Rattle.surveys.specs.SurveyFile.{SURVEY-HEADER, RECORD, countOf}
 use Rattle.files.specs.declared.Reading.the-variants.{Taken}
 use Rattle.files.proofs.Faults.{clear-more, fault-at}
 use Rattle.join.specs.Join.{joinFault, pairFault, pairFaults}

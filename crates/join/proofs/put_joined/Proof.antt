@@ -8,7 +8,7 @@ use lib.ListN.{length}
 use lib.Seq.{paste, paste-zero, length-paste}
 use denote.Ref.{now}
 use borrow.Author.Needs.{needs}
-use Rattle.files.specs.SurveyFile.{SURVEY-HEADER, RECORD, countOf}
+use Rattle.surveys.specs.SurveyFile.{SURVEY-HEADER, RECORD, countOf}
 use Rattle.join.specs.Join.{joinedMember, joinedAt}
 use Rattle.join.specs.SurveyBytes.{headBytes}
 use Rattle.join.proofs.Pairs.{length-output}

@@ -1,0 +1,5 @@
+pub mod Sequence
+pub mod SurveyFile
+pub mod Allowed
+pub mod OneOrder
+pub mod Refused
