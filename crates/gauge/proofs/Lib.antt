@@ -1,0 +1,5 @@
+pub mod Values
+mod Patterns
+pub mod Differences
+mod Limits
+pub mod Refusals

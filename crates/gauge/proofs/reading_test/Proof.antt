@@ -1,0 +1,13 @@
+-- `reading_test` meets its contract: a test that holds is no refusal.
+-- Assumes nothing.
+use Rattle.gauge.proofs.reading_test.Statement.{statement}
+use Rattle.gauge.proofs.reading_test.Tie as tie
+
+returns : tie.Need-returns
+returns c = rw (c .if1 .taken)
+
+returns-2 : tie.Need-returns-2
+returns-2 c = rw (c .if1 .left)
+
+pub reading-test-spec : {M : Type 1} → statement M
+reading-test-spec = tie.close (tie.spec returns returns-2)

@@ -1,0 +1,17 @@
+-- What the code keeps of a reading: how many 64ths it has. No part of the demands.
+use Prim.Native.Nat.{ℕ}
+use mathlib.Core.Bool.{true, false}
+use lib.Ieee.{Float}
+use Rattle.section.specs.Choose.{choose}
+use Rattle.section.specs.Fraction.{whole, _·_, floor}
+use Rattle.gauge.specs.Value.{valueOf, isReading}
+use Rattle.gauge.specs.declared.reading.SixtyFourths.{SixtyFourths}
+
+abbrev pub counted : ℕ → SixtyFourths
+counted n = record { good = true; count = n }
+
+abbrev pub noReading : SixtyFourths
+noReading = record { good = false; count = 0 }
+
+abbrev pub countedOf : Float → SixtyFourths
+countedOf x = choose (isReading x) (counted (floor (whole 64 · valueOf x))) noReading

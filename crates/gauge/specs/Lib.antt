@@ -1,0 +1,5 @@
+pub mod Value
+pub mod Limit
+pub mod Gauge
+pub mod Fault
+pub mod Counted

@@ -1,0 +1,74 @@
+// A reading by its bits: a sign, an exponent of eight bits and a mantissa of 23, behind a leading 1 that is not written.
+ghost use mathlib.Core.Path.{_≡_};
+ghost use Prim.Native.Nat.{_-_, _*_, _^_, _≤_, _<_};
+ghost use Rattle.gauge.specs.Counted.{counted, noReading, countedOf};
+
+// What the exponent's first bit counts for, behind the mantissa's bits.
+const MANTISSA: u32 = 8388608;
+
+// The exponents of 1/64 and of 256: a reading that is not 0 lies from the first to below twice the second. A set sign makes it greater.
+const LEAST_EXPONENT: u32 = 121;
+
+const GREATEST_EXPONENT: u32 = 135;
+
+// The parts of a 64th in which a number with the least exponent has its mantissa.
+const PARTS: u64 = 8388608;
+
+// How many 64ths of a millimetre a reading has; 0 where it is none.
+pub struct SixtyFourths {
+    pub good: bool,
+    pub count: u64,
+}
+
+fn counted(count: u64) -> SixtyFourths
+    ensures { λ r. ⌜ r ≡ counted count ⌝ }
+{
+    SixtyFourths { good: true, count }
+}
+
+fn no_reading() -> SixtyFourths
+    ensures { λ r. ⌜ r ≡ noReading ⌝ }
+{
+    SixtyFourths {
+        good: false,
+        count: 0,
+    }
+}
+
+fn wide(x: u32) -> u64
+    ensures { λ r. ⌜ r ≡ x ⌝ }
+{
+    x as u64
+}
+
+// The parts of a number whose mantissa, with its leading 1, and exponent are these.
+fn scaled(mantissa: u32, exponent: u32) -> u64
+    requires { ⌜ (mantissa < 2 ^ 24) × (121 ≤ exponent) × (exponent ≤ 135) ⌝ }
+    ensures { λ r. ⌜ r ≡ mantissa * 2 ^ (exponent - 121) ⌝ }
+{
+    wide(mantissa) << (exponent - LEAST_EXPONENT)
+}
+
+pub fn sixty_fourths(x: f32) -> SixtyFourths
+    ensures { λ r. ⌜ r ≡ countedOf x ⌝ }
+{
+    if x != x {
+        return no_reading();
+    }
+    let bits = f32::to_bits(x);
+    if bits == 0 {
+        return counted(0);
+    }
+    let exponent = bits / MANTISSA;
+    if exponent < LEAST_EXPONENT {
+        return no_reading();
+    }
+    if GREATEST_EXPONENT < exponent {
+        return no_reading();
+    }
+    let parts = scaled(MANTISSA + bits % MANTISSA, exponent);
+    if parts % PARTS != 0 {
+        return no_reading();
+    }
+    counted(parts / PARTS)
+}
