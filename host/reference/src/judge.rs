@@ -51,6 +51,19 @@ pub fn bridge(members: Vec<Rated>) -> Judged {
     Judged { figure, governing, passes, margin, members }
 }
 
+/// What a call on one place is made on: "11 no survey; 12 no vehicle; 13 no such place", tested in
+/// that order.
+pub fn loaded_at<'a>(
+    survey: Option<&'a [Member]>,
+    vehicle: Option<&'a Vehicle>,
+    place: usize,
+) -> Result<(&'a Member, &'a Vehicle), u64> {
+    let members = survey.ok_or(11u64)?;
+    let vehicle = vehicle.ok_or(12u64)?;
+    let member = place.checked_sub(1).and_then(|i| members.get(i)).ok_or(13u64)?;
+    Ok((member, vehicle))
+}
+
 /// A member's loads in exact fractions, every position tried.
 pub fn rate(member: &Member, vehicle: &Vehicle) -> Rated {
     Rated { permitted: permitted_load(member, vehicle), vehicle: vehicle_load(member, vehicle) }

@@ -1,4 +1,4 @@
-//! Document 01 and requests 1 to 10 of document 02 in plain Rust, written from the documents alone,
+//! Document 01 and requests 1 to 11 of document 02 in plain Rust, written from the documents alone,
 //! and a generator of files.
 //!
 //! The proved library is tested against it. It tries every position of the vehicle, counts in
@@ -9,6 +9,7 @@ pub mod between;
 pub mod convert;
 pub mod crescent;
 pub mod fraction;
+pub mod gauge;
 pub mod generate;
 pub mod influence;
 pub mod join;
@@ -25,6 +26,7 @@ pub mod yard;
 
 pub use between::{between, Between, Bounds, Passing};
 pub use convert::convert;
+pub use gauge::{gauge, Deflection, Readings};
 pub use join::join;
 pub use judge::{judge, Judged, Rated};
 pub use reader::{Axle, File, Member, Refused, Vehicle};

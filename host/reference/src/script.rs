@@ -1,7 +1,7 @@
 //! A script of calls on a session for the program `cases`, with the answers by the documents.
 
-use crate::{between, convert, join, judge, reader, yard};
-use crate::{Answer, Judged, Member, Passing, Rated, Refused, Vehicle};
+use crate::{between, convert, gauge, join, judge, reader, yard};
+use crate::{Answer, Deflection, Judged, Member, Passing, Rated, Readings, Refused, Vehicle};
 use std::fmt::Write;
 
 /// The program takes scripts that are shorter than this.
@@ -15,6 +15,9 @@ const MOST_ENTRIES: usize = 160;
 
 /// The most bytes of a buffer that it lends: more than the longest survey has, 6 + 32 × 64.
 pub const MOST_BYTES: usize = 2100;
+
+/// The bytes of a gauge's step: a place, and the bits of three readings.
+pub const GAUGE_BYTES: usize = 2 + 3 * 4;
 
 /// What each byte of a lent buffer holds.
 const KNOWN_BYTE: u8 = 0xee;
@@ -130,10 +133,15 @@ impl Script {
         }
     }
 
+    /// The members and the vehicle that are loaded.
+    fn loaded(&self) -> (Option<&[Member]>, Option<&Vehicle>) {
+        let members = self.survey.as_ref().map(|(_, members)| &members[..]);
+        (members, self.vehicle.as_ref().map(|(_, vehicle)| vehicle))
+    }
+
     fn rated(&self, place: usize) -> Result<Rated, u64> {
-        let (_, members) = self.survey.as_ref().ok_or(11u64)?;
-        let (_, vehicle) = self.vehicle.as_ref().ok_or(12u64)?;
-        let member = place.checked_sub(1).and_then(|i| members.get(i)).ok_or(13u64)?;
+        let (survey, vehicle) = self.loaded();
+        let (member, vehicle) = judge::loaded_at(survey, vehicle, place)?;
         Ok(judge::rate(member, vehicle))
     }
 
@@ -183,8 +191,7 @@ impl Script {
 
     /// The list filled with a yard's answers, and the number of passes.
     fn fill_yard(&self, bytes: &[u8], list: &mut [Answer]) -> Result<u64, Refused> {
-        let members = self.survey.as_ref().map(|(_, members)| &members[..]);
-        let judged = yard(members, bytes, list.len())?;
+        let judged = yard(self.loaded().0, bytes, list.len())?;
         fill(list, judged.answers);
         Ok(judged.passes)
     }
@@ -208,8 +215,7 @@ impl Script {
 
     /// The list filled with the bounds of the members of two surveys, and the verdict.
     fn fill_between(&self, surveys: [&[u8]; 2], list: &mut [u64]) -> Result<Passing, Refused> {
-        let vehicle = self.vehicle.as_ref().map(|(_, vehicle)| vehicle);
-        let answer = between(vehicle, surveys[0], surveys[1], list.len())?;
+        let answer = between(self.loaded().1, surveys[0], surveys[1], list.len())?;
         let bounds = answer.members.iter();
         fill(list, bounds.flat_map(|bounds| [bounds.lowest, bounds.highest]));
         Ok(answer.passing)
@@ -246,6 +252,31 @@ impl Script {
         let body = [&number(room), &number(first.len()), first, second].concat();
         self.step(b'M', body.len(), &body);
         self.written("join", room, join(first, second, room));
+    }
+
+    /// Takes the bits of a gauge's three readings at a place.
+    pub fn gauge(&mut self, place: usize, readings: [u32; 3]) {
+        let bits = readings.map(u32::to_le_bytes);
+        self.gauge_body(&[&number(place), &bits.concat()[..]].concat());
+    }
+
+    /// The same by the bytes of the step, of which the first 14 count; fewer are no call, and stand
+    /// as a line of text in the output.
+    pub fn gauge_body(&mut self, body: &[u8]) {
+        self.step(b'G', body.len(), body);
+        let Some((&[low, high, ref bits @ ..], _)) = body.split_first_chunk::<GAUGE_BYTES>() else {
+            return self.print(std::str::from_utf8(body).expect("a short step of letters"));
+        };
+        let reading = |i: usize| u32::from_le_bytes(std::array::from_fn(|byte| bits[4 * i + byte]));
+        let readings = Readings::of_bits([0, 1, 2].map(reading));
+        let (survey, vehicle) = self.loaded();
+        let place = u16::from_le_bytes([low, high]).into();
+        let answer = match gauge(survey, vehicle, place, &readings) {
+            Ok(Deflection::Within(deflection)) => format!("within {}", deflection.to_bits()),
+            Ok(Deflection::Over(deflection)) => format!("over {}", deflection.to_bits()),
+            Err((number, place)) => refused(number, place),
+        };
+        self.print(&format!("gauge {answer}"));
     }
 
     /// The answer of a call that writes into a lent buffer, and the buffer as it is then.
