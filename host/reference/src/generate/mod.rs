@@ -7,12 +7,14 @@ mod corners;
 mod damage;
 mod disagree;
 mod disorder;
+mod gauge;
 mod heavier;
 mod join;
 mod measured;
 mod order;
 mod places;
 mod random;
+mod readings;
 mod survey;
 mod tie;
 mod vehicle;
@@ -30,6 +32,10 @@ pub use corners::corners;
 pub use damage::{any_bytes, some_damage};
 pub use disagree::{disagree, Disagreement};
 pub use disorder::{disorder, Disorder};
+pub use gauge::{
+    damaged_gauges, good_readings, most_within, some_gauge, some_gauge_call, sound_gauge_call,
+    tested_member, tested_survey, DamagedGauge, Gauge, GaugeCall,
+};
 pub use heavier::{
     damaged_conversions, length, other_version, some_conversion, sound_conversion, wrong_lengths,
     wrong_weights, Conversion, DamagedConversion, LONGEST_OUTPUT,
@@ -42,6 +48,7 @@ pub use order::{
 };
 pub use places::{damaged_surveys, damaged_vehicles, Damaged};
 pub use random::Random;
+pub use readings::{deflected, edge_readings, reading_bits, risen, NoReading, LAST_READING};
 pub use survey::{full_survey, of_each_kind, survey, survey_bytes, Spread};
 pub use tie::at_a_tie;
 pub use vehicle::{
