@@ -7,6 +7,7 @@ mod close_stringers;
 mod crescents;
 mod document;
 mod edges;
+mod gauge;
 mod heavier;
 mod joined;
 mod margins;
@@ -36,6 +37,7 @@ fn script() -> Script {
     order::cases(&mut script);
     heavier::cases(&mut script);
     joined::cases(&mut script);
+    gauge::cases(&mut script);
     script
 }
 

@@ -1,6 +1,7 @@
 //! 11 to 14 in every order of state, lists of every length, and what refused loads keep.
 
 use crate::records::*;
+use reference::generate::reading_bits;
 use reference::layout::*;
 use reference::script::Script;
 
@@ -8,6 +9,9 @@ use reference::script::Script;
 fn calls(script: &mut Script, count: usize) {
     for place in [0, 1, count, count + 1, 65, 256, 65535] {
         script.rate(place);
+    }
+    for place in [0, count, count + 1] {
+        script.gauge(place, [0, 640, 0].map(reading_bits));
     }
     for entries in [0, 1, 2 * count - 1, 2 * count, 2 * count + 1, 2 * count + 5, 160] {
         script.judge(entries);
