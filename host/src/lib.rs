@@ -27,5 +27,5 @@ mod refusal;
 mod yard;
 
 pub use judge::{check_survey, check_vehicle, judge, member_loads, Judgement, MemberLoads};
-pub use refusal::{Refusal, Which, YardRefusal};
+pub use refusal::{GaugeRefusal, Refusal, Which, YardRefusal};
 pub use yard::{check_yard, judge_yard, YardJudgement};

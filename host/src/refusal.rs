@@ -54,6 +54,28 @@ fn light_weight() -> String {
 
 const NO_WORDS: &str = "a refusal number that has no words here";
 
+/// A refusal as an error is its heading and its meaning. So it is debugged too: a `main` that
+/// returns a refusal prints it in words.
+macro_rules! told_in_words {
+    ($($refusal:ty),*) => {$(
+        impl fmt::Display for $refusal {
+            fn fmt(&self, f: &mut fmt::Formatter) -> fmt::Result {
+                write!(f, "{}: {}", self.heading(), self.meaning())
+            }
+        }
+
+        impl fmt::Debug for $refusal {
+            fn fmt(&self, f: &mut fmt::Formatter) -> fmt::Result {
+                fmt::Display::fmt(self, f)
+            }
+        }
+
+        impl std::error::Error for $refusal {}
+    )*};
+}
+
+told_in_words!(Refusal, GaugeRefusal, YardRefusal);
+
 impl Refusal {
     /// The file, the number and the record, without what the number means.
     pub fn heading(&self) -> String {
@@ -149,20 +171,43 @@ impl Refusal {
     }
 }
 
-impl fmt::Display for Refusal {
-    fn fmt(&self, f: &mut fmt::Formatter) -> fmt::Result {
-        write!(f, "{}: {}", self.heading(), self.meaning())
-    }
+/// Why a gauge's readings under a test load were not taken, which no call of this crate does.
+#[derive(Clone, Copy, PartialEq, Eq)]
+pub struct GaugeRefusal {
+    /// The number: 11 no survey, 12 no vehicle, 13 no such member, 20 the readings.
+    pub number: u64,
+    /// The first bad reading, from 1: empty, loaded, after; 0 where none of them is bad.
+    pub place: u64,
 }
 
-/// In words too: a `main` that returns a refusal prints it so.
-impl fmt::Debug for Refusal {
-    fn fmt(&self, f: &mut fmt::Formatter) -> fmt::Result {
-        fmt::Display::fmt(self, f)
+impl GaugeRefusal {
+    /// The number and the reading, without what the number means.
+    pub fn heading(&self) -> String {
+        let heading = format!("gauge refused, number {}", self.number);
+        match self.place {
+            0 => heading,
+            place => format!("{heading} at reading {place}"),
+        }
+    }
+
+    /// What the number means, in words.
+    pub fn meaning(&self) -> String {
+        let reading = match (self.number, self.place) {
+            (11, 0) => return "no survey is loaded".to_string(),
+            (12, 0) => return "no vehicle is loaded".to_string(),
+            (13, 0) => return "the survey has no member at that place".to_string(),
+            (20, 0) => return "the reading after the load is above that under it".to_string(),
+            (20, 1) => "before the load",
+            (20, 2) => "under the load",
+            (20, 3) => "after the load",
+            _ => return NO_WORDS.to_string(),
+        };
+        format!(
+            "the reading {reading} is not a whole number of 64ths of a mm from 0 to below 512 mm \
+             with its sign bit clear"
+        )
     }
 }
-
-impl std::error::Error for Refusal {}
 
 /// Why a yard was not judged.
 #[derive(Clone, Copy, PartialEq, Eq)]
@@ -229,17 +274,3 @@ impl YardRefusal {
         }
     }
 }
-
-impl fmt::Display for YardRefusal {
-    fn fmt(&self, f: &mut fmt::Formatter) -> fmt::Result {
-        write!(f, "{}: {}", self.heading(), self.meaning())
-    }
-}
-
-impl fmt::Debug for YardRefusal {
-    fn fmt(&self, f: &mut fmt::Formatter) -> fmt::Result {
-        fmt::Display::fmt(self, f)
-    }
-}
-
-impl std::error::Error for YardRefusal {}

@@ -6,7 +6,7 @@ use common::{expected, library};
 use reference::generate::*;
 use tbr::file;
 use tbr::form::{explain, numbers, read};
-use tbr::{check_survey, check_vehicle, judge, Refusal, Which};
+use tbr::{check_survey, check_vehicle, judge, GaugeRefusal, Refusal, Which};
 
 const SURVEY: &[u8] = include_bytes!("../../samples/case-a.tbr");
 const VEHICLE: &[u8] = include_bytes!("../../samples/case-l.tbv");
@@ -178,6 +178,32 @@ fn two_surveys_that_cannot_be_joined() {
     }
 }
 
+/// 20 is of a gauge's readings: which of them is no reading, or that the last is above the second.
+/// No file is at fault.
+#[test]
+fn readings_of_a_gauge_that_are_none() {
+    let words = |number, place| GaugeRefusal { number, place }.to_string();
+    for (place, which) in [(1, "before"), (2, "under"), (3, "after")] {
+        let expected = format!(
+            "gauge refused, number 20 at reading {place}: the reading {which} the load is not a \
+             whole number of 64ths of a mm from 0 to below 512 mm with its sign bit clear"
+        );
+        assert_eq!(words(20, place), expected);
+    }
+    let risen = "gauge refused, number 20: the reading after the load is above that under it";
+    assert_eq!(words(20, 0), risen);
+    assert_eq!(words(11, 0), "gauge refused, number 11: no survey is loaded");
+    assert_eq!(words(12, 0), "gauge refused, number 12: no vehicle is loaded");
+    assert_eq!(words(13, 0), "gauge refused, number 13: the survey has no member at that place");
+    let no_words = Refusal { file: Which::Vehicle, number: 9, place: 0 }.meaning();
+    for (number, place) in [(20, 4), (20, u64::MAX), (11, 1), (14, 0), (19, 1), (0, 0)] {
+        assert_eq!(GaugeRefusal { number, place }.meaning(), no_words, "{number} at {place}");
+    }
+    for (file, place) in [Which::Survey, Which::Vehicle].into_iter().zip(0..) {
+        assert_eq!(Refusal { file, number: 20, place }.meaning(), no_words, "a {file} has no 20");
+    }
+}
+
 /// The same files judged in several threads, in another order in each: nothing is kept from call to
 /// call, and no call disturbs another.
 #[test]
@@ -335,7 +361,7 @@ fn every_refused_record_has_a_field_at_fault() {
 #[test]
 fn refusals_of_other_bytes_name_nothing() {
     for file in [Which::Survey, Which::Vehicle] {
-        for number in [0, 1, 3, 4, 7, 8, 9, 14, 15, 16, 17, 18, 19, u64::MAX] {
+        for number in [0, 1, 3, 4, 7, 8, 9, 14, 15, 16, 17, 18, 19, 20, u64::MAX] {
             for place in [0, 1, 2, 65, u64::MAX] {
                 let refusal = Refusal { file, number, place };
                 assert_eq!(explain(&[], &refusal), []);
