@@ -10,16 +10,27 @@ use readings::hold;
 use reference::generate::*;
 use reference::layout::{Words, KIND, SPAN};
 
-/// What the request could be taken for, and is not.
-#[derive(Clone, Copy, Debug, PartialEq, Eq)]
-enum Wrong {
+/// The enum and a list of its cases.
+macro_rules! wrong {
+    ($($case:ident,)*) => {
+        /// What the request could be taken for, and is not.
+        #[derive(Clone, Copy, Debug, PartialEq, Eq)]
+        enum Wrong {
+            /// The other part of the span for this kind.
+            OtherPart(u16),
+            $($case,)*
+        }
+
+        const OTHERS: &[Wrong] = &[$(Wrong::$case,)*];
+    };
+}
+
+wrong! {
     OverAtTheLimit,
     NoFifth,
     FifthForClass0,
     FifthForBoth,
     FifthLess,
-    /// The other part of the span for this kind.
-    OtherPart(u16),
     PartsExchanged,
     SpanInCm,
     LimitInWholeMm,
@@ -65,57 +76,8 @@ enum Wrong {
 
 use Wrong::*;
 
-const OTHERS: [Wrong; 46] = [
-    OverAtTheLimit,
-    NoFifth,
-    FifthForClass0,
-    FifthForBoth,
-    FifthLess,
-    PartsExchanged,
-    SpanInCm,
-    LimitInWholeMm,
-    LimitRoundedUp,
-    LimitRoundedHalfUp,
-    HalvesTaken,
-    NoiseTaken,
-    MinusZeroTaken,
-    SignIgnored,
-    SmallTaken,
-    DenormalsTaken,
-    ZeroRefused,
-    LastRefused,
-    FiveTwelveTaken,
-    NotANumberTaken,
-    TurnedRound,
-    LoadedAboveEmpty,
-    AfterAboveEmpty,
-    LoadedAlone,
-    CarriesLoaded,
-    CarriesNothingWhenOver,
-    EmptyNotTested,
-    LoadedNotTested,
-    AfterNotTested,
-    LastBadReading,
-    LoadedFirst,
-    PlacesFromZero,
-    AllAtZero,
-    PlaceOfTheMember,
-    RisenFirst,
-    RisenAtThree,
-    RisenTaken,
-    EqualRefused,
-    EmptyAboveLoadedRefused,
-    EmptyAboveAfterRefused,
-    TwentyFirst,
-    TwentyBeforeTwelve,
-    TwentyBeforeThirteen,
-    ThirteenFirst,
-    TwelveFirst,
-    MembersFromZero,
-];
-
 fn all_wrong() -> Vec<Wrong> {
-    OTHERS.into_iter().chain((1..=7).map(OtherPart)).collect()
+    OTHERS.iter().copied().chain((1..=7).map(OtherPart)).collect()
 }
 
 /// Bits without their sign, in 128ths of a mm.
@@ -311,7 +273,9 @@ fn wrong_readings_are_seen() {
 fn wrong_limits_are_seen_in_good_readings() {
     let mut random = Random::new(0x0b11_2002);
     let all: Vec<GaugeCall> = (0..8000).map(|_| sound_gauge_call(&mut random)).collect();
-    let limits = OTHERS[..10].iter().copied().chain((1..=7).map(OtherPart));
+    let fifths = [NoFifth, FifthForClass0, FifthForBoth, FifthLess, OverAtTheLimit, SpanInCm];
+    let limits = [PartsExchanged, LimitInWholeMm, LimitRoundedUp, LimitRoundedHalfUp];
+    let limits = fifths.into_iter().chain(limits).chain((1..=7).map(OtherPart));
     let deflections = [TurnedRound, LoadedAboveEmpty, AfterAboveEmpty, LoadedAlone];
     let others = [CarriesLoaded, CarriesNothingWhenOver, ZeroRefused, LastRefused, EqualRefused];
     let wrongs: Vec<Wrong> = limits.chain(deflections).chain(others).collect();
