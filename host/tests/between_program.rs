@@ -8,9 +8,6 @@ use common::seed;
 use reference::generate::*;
 use reference::layout::Words;
 use reference::script::{Script, SPACE};
-use std::collections::BTreeMap;
-
-const SCRIPTS: u64 = 6;
 
 /// A round of calls is shorter than this: a survey, twelve calls and what is between them.
 const LONGEST_ROUND: usize = 60_000;
@@ -90,27 +87,20 @@ fn without_place(answer: &str) -> &str {
     answer.split(" at ").next().unwrap_or(answer)
 }
 
+fn scripts() -> Scripts {
+    Scripts { seed: seed(0xbe20_1001), scripts: 6, longest: LONGEST_ROUND, round }
+}
+
 #[test]
 fn the_scripts_have_every_answer() {
-    let first = seed(0xbe20_1001);
-    let mut seen = BTreeMap::new();
-    for seed in first..first + SCRIPTS {
-        count(&mut seen, &filled(seed, LONGEST_ROUND, round), "between", without_place);
-    }
-    println!("{seen:?}");
-    assert!(seen.values().sum::<u64>() > 4000, "{seen:?}");
+    let seen = scripts().answers("between", without_place, 4000);
     hold_often(&seen, &["all", "none", "undecided"], 200);
-    let refusals =
-        [1, 2, 3, 4, 5, 6, 7, 8, 12, 14, 15, 16].map(|number| format!("refused {number}"));
-    hold_often(&seen, &refusals.each_ref().map(String::as_str), 20);
+    hold_refused(&seen, &[1, 2, 3, 4, 5, 6, 7, 8, 12, 14, 15, 16], 20);
 }
 
 #[test]
 fn thousands_of_two_surveys() {
-    let first = seed(0xbe20_1001);
-    for seed in first..first + SCRIPTS {
-        agree(&filled(seed, LONGEST_ROUND, round), &format!("TBR_SEED={seed}"));
-    }
+    scripts().agree();
 }
 
 /// Two surveys of 64 members refused in each way at each place.

@@ -8,9 +8,6 @@ use common::scripts::*;
 use common::{programs, seed};
 use reference::generate::*;
 use reference::script::{Script, MOST_BYTES, SPACE};
-use std::collections::BTreeMap;
-
-const SCRIPTS: u64 = 6;
 
 /// A round of calls is shorter than this: at most twelve, and a full survey may be loaded in each.
 const LONGEST_ROUND: usize = 30_000;
@@ -40,17 +37,7 @@ fn round(random: &mut Random, script: &mut Script) {
         match random.below(48) {
             0 => load_vehicle(random, script),
             1 => load_survey(random, script),
-            2 => script.rate(random.below(5)),
-            3 => script.judge(random.below(12)),
-            4 => script.yard(&some_yard_damage(random, 3), 3),
-            5 => {
-                let [first, second] = some_pair_damage(random, 3);
-                script.between(&first, &second, 6);
-            }
-            6 => {
-                let Conversion { wanted, file, room } = some_conversion(random);
-                script.convert(wanted, &file, room);
-            }
+            2..=6 => another_call(random, script),
             7 => script.start(),
             8..=27 => join(script, &some_join(random, 4)),
             _ => one_bridge(random, script),
@@ -67,28 +54,22 @@ fn class(answer: &str) -> &str {
     }
 }
 
+fn scripts() -> Scripts {
+    Scripts { seed: seed(0x101a_1001), scripts: 6, longest: LONGEST_ROUND, round }
+}
+
 /// The scripts are worth something only if all answers are among them.
 #[test]
 fn the_scripts_have_every_answer() {
-    let first = seed(0x101a_1001);
-    let mut seen = BTreeMap::new();
-    for seed in first..first + SCRIPTS {
-        count(&mut seen, &filled(seed, LONGEST_ROUND, round), "join", class);
-    }
-    println!("{seen:?}");
-    assert!(seen.values().sum::<u64>() > 6000, "{seen:?}");
+    let seen = scripts().answers("join", class, 6000);
     hold_often(&seen, &["taken"], 3000);
-    hold_often(&seen, &["refused 14", "refused 18", "refused 19"], 200);
-    let own = [1, 2, 3, 4, 5, 6, 7, 8, 16].map(|number| format!("refused {number}"));
-    hold_often(&seen, &own.each_ref().map(String::as_str), 20);
+    hold_refused(&seen, &[14, 18, 19], 200);
+    hold_refused(&seen, &[1, 2, 3, 4, 5, 6, 7, 8, 16], 20);
 }
 
 #[test]
 fn thousands_of_joins() {
-    let first = seed(0x101a_1001);
-    for seed in first..first + SCRIPTS {
-        agree(&filled(seed, LONGEST_ROUND, round), &format!("TBR_SEED={seed}"));
-    }
+    scripts().agree();
 }
 
 /// These joins, in as many scripts as they need.

@@ -8,9 +8,6 @@ use common::seed;
 use reference::generate::*;
 use reference::layout::heaviest;
 use reference::script::Script;
-use std::collections::BTreeMap;
-
-const SCRIPTS: u64 = 4;
 
 /// A round of calls is shorter than this: two small files and a yard.
 const LONGEST_ROUND: usize = 2000;
@@ -61,24 +58,20 @@ fn margin(answer: &str) -> &str {
     }
 }
 
+fn scripts() -> Scripts {
+    Scripts { seed: seed(0x3a61_1001), scripts: 4, longest: LONGEST_ROUND, round }
+}
+
 /// The scripts are worth something only if margins of every sign are among them.
 #[test]
 fn the_scripts_have_every_margin() {
-    let first = seed(0x3a61_1001);
     for name in ["rate", "judge"] {
-        let mut seen = BTreeMap::new();
-        for seed in first..first + SCRIPTS {
-            count(&mut seen, &filled(seed, LONGEST_ROUND, round), name, margin);
-        }
-        assert!(seen.values().sum::<u64>() > 2000, "{seen:?}");
+        let seen = scripts().answers(name, margin, 2000);
         hold_often(&seen, &["below", "0", "above"], 200);
     }
 }
 
 #[test]
 fn thousands_of_bridges() {
-    let first = seed(0x3a61_1001);
-    for seed in first..first + SCRIPTS {
-        agree(&filled(seed, LONGEST_ROUND, round), &format!("TBR_SEED={seed}"));
-    }
+    scripts().agree();
 }

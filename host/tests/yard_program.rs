@@ -8,9 +8,6 @@ use common::seed;
 use reference::generate::*;
 use reference::layout::heaviest;
 use reference::script::{Script, SPACE};
-use std::collections::BTreeMap;
-
-const SCRIPTS: u64 = 6;
 
 /// A round of calls is shorter than this: two files, ten yards and what is between them.
 const LONGEST_ROUND: usize = 40_000;
@@ -59,28 +56,22 @@ fn some_or_none(answer: &str) -> &str {
     }
 }
 
+fn scripts() -> Scripts {
+    Scripts { seed: seed(0x9a4d_1001), scripts: 6, longest: LONGEST_ROUND, round }
+}
+
 /// The scripts are worth something only if all answers are among them.
 #[test]
 fn the_scripts_have_every_answer() {
-    let first = seed(0x9a4d_1001);
-    let mut seen = BTreeMap::new();
-    for seed in first..first + SCRIPTS {
-        count(&mut seen, &filled(seed, LONGEST_ROUND, round), "yard", some_or_none);
-    }
-    println!("{seen:?}");
-    assert!(seen.values().sum::<u64>() > 5000, "{seen:?}");
+    let seen = scripts().answers("yard", some_or_none, 5000);
     hold_often(&seen, &["none", "some"], 20);
     let refusals = ["1 at 0", "2 at 0", "3 at 0", "7 at 0", "7 at 1", "11 at 0", "14 at 0"];
-    let refusals = refusals.map(|refusal| format!("refused {refusal}"));
-    hold_often(&seen, &refusals.each_ref().map(String::as_str), 20);
+    hold_refused(&seen, &refusals, 20);
 }
 
 #[test]
 fn thousands_of_yards() {
-    let first = seed(0x9a4d_1001);
-    for seed in first..first + SCRIPTS {
-        agree(&filled(seed, LONGEST_ROUND, round), &format!("TBR_SEED={seed}"));
-    }
+    scripts().agree();
 }
 
 /// One damage in each way at each place of a yard of 32 vehicles. Such a yard is a byte, files of
