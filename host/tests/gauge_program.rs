@@ -16,7 +16,7 @@ fn gauge(script: &mut Script, Gauge { place, readings }: Gauge) {
     script.gauge(place, readings);
 }
 
-/// A survey and a vehicle, of which one may be missing or refused; gauges on them, and between them
+/// A survey and a vehicle, of which one or both may be missing; gauges on them, and between them
 /// every other call.
 fn round(random: &mut Random, script: &mut Script) {
     let members = if random.once_in(40) { 64 } else { 1 + random.below(4) };

@@ -38,8 +38,8 @@ fn sixty_fourths(reading: f32) -> Option<i128> {
     good.then_some(count as i128)
 }
 
-/// "Limit, with the span l in mm: span/180 for kinds 1, 2 and 7, span/300 for the rest, a fifth more
-/// for class 1." The survey has l in cm.
+/// "Limit, with the span l in mm: span/180 for kinds 1, 2 and 7, span/300 for the rest, a fifth
+/// more for class 1." The survey has l in cm.
 fn limit(member: &Member, vehicle: &Vehicle) -> Fraction {
     let span = 10 * i128::from(member.l);
     let limit = match member.kind {

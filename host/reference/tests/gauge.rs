@@ -51,8 +51,8 @@ const LIMITS: [(u16, [u16; 4]); 7] = [
     (4999, [17_774, 21_329, 10_664, 12_797]),
 ];
 
-/// "span/180 for kinds 1, 2 and 7, span/300 for the rest, a fifth more for class 1"; "at the limit it
-/// is within, and the comparison is exact"
+/// "span/180 for kinds 1, 2 and 7, span/300 for the rest, a fifth more for class 1"; "at the limit
+/// it is within, and the comparison is exact"
 #[test]
 fn limits_by_hand() {
     for (span, [beam, heavy_beam, truss, heavy_truss]) in LIMITS {
@@ -91,8 +91,8 @@ fn the_span_alone_counts() {
     assert_eq!(of_mm(BEAM, 0, [0.0, 16.671875, 0.0]), Ok((false, 16.671875f32.to_bits())));
 }
 
-/// "for such readings the subtraction loses nothing": every pair of readings, the deflection that of
-/// the whole numbers of 64ths.
+/// "for such readings the subtraction loses nothing": every pair of readings, the deflection that
+/// of the whole numbers of 64ths.
 #[test]
 fn the_subtraction_is_exact() {
     let values: Vec<f32> =
