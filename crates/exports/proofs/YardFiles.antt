@@ -7,7 +7,7 @@ use lib.ListN.{take, drop}
 use Rattle.vehicles.specs.YardFile.{vehiclesOf}
 use Rattle.files.specs.declared.Reading.the-variants.{Taken, Refused}
 use Rattle.files.specs.declared.Refusal.{Refusal}
-use Rattle.session.specs.Answers.{Answer, Values, WithMargin, RefusedAt, Outcome, loaded, yardAnswer, refusedBy}
+use Rattle.session.specs.Answers.{Answer, Values, WithMargin, WithDeflection, RefusedAt, Outcome, loaded, yardAnswer, refusedBy}
 use Rattle.session.specs.Calls.{newSession, loadSurvey, unlessRefused}
 use Rattle.session.specs.Yard.{Entry, entries, vehicleAnswers, yardAnswered}
 use Rattle.session.specs.YardRun.{Answered}
@@ -19,6 +19,7 @@ use Rattle.exports.specs.declared.yard.YardNumbers.{YardNumbers}
 counted : (a : Answer) {count : ℕ} (vehicles : ℕ) → count ≡ unlessRefused a 0 vehicles → yardNumbersOf a count ≡ yardNumbersOf a vehicles
 counted (Values values) vehicles e = rw e
 counted (WithMargin values margin) vehicles e = rw e
+counted (WithDeflection values deflection) vehicles e = rw e
 counted (RefusedAt number place) vehicles e = refl
 
 written :
@@ -27,6 +28,7 @@ written :
     numbersIn found ++ drop (3 * count) list ≡ unlessRefused a list (numbersIn all ++ drop (3 * vehicles) list)
 written (Values values) list vehicles all e f = rw (e, f)
 written (WithMargin values margin) list vehicles all e f = rw (e, f)
+written (WithDeflection values deflection) list vehicles all e f = rw (e, f)
 written (RefusedAt number place) list vehicles all e f = rw (e, f)
 
 module _ (survey yard list : List ℕ) (o : AfterLoad) (load : loaded o ≡ loadSurvey newSession survey) where

@@ -7,7 +7,7 @@ use native.Mathlib.Decide.{decLt}
 use native.Mathlib.Omega.{arith}
 use lib.ListN.{length, take, drop, length-append, length-drop}
 use lib.Seq.{paste, take-paste, take-all, take-at, drop-at, drop-paste, drop-drop}
-use Rattle.files.specs.Answer.{Answer, Values, WithMargin, RefusedAt}
+use Rattle.files.specs.Answer.{Answer, Values, WithMargin, WithDeflection, RefusedAt}
 use Rattle.files.specs.Words.{inRow}
 use Rattle.files.specs.Writing.{answerBy, bytesBy, onto}
 use Rattle.files.specs.declared.Reading.{Reading}
@@ -40,6 +40,7 @@ abbrev bytesIn : Answer → ℕ
 bytesIn (Values (n ∷ ns)) = suc n
 bytesIn (Values []) = 0
 bytesIn (WithMargin values margin) = 0
+bytesIn (WithDeflection values deflection) = 0
 bytesIn (RefusedAt number place) = 0
 
 pub written-tests : (a : Reading) (m n : ℕ) → answerBy a m ≡ Values (n ∷ []) → (a ≡ Taken) × (n ≡ m)

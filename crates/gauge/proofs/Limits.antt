@@ -8,11 +8,10 @@ use lib.Dec.{eqb, leb}
 use Rattle.section.specs.Choose.{choose}
 use Rattle.section.specs.Fraction.{Sound, over, whole, _÷_, _⊕_, _≐_, atMost}
 use Rattle.section.proofs.Choices.{of-choose}
-use Rattle.section.proofs.Order.{≐-refl, ≐-sym, over-sound, whole-sound, ÷-sound, ⊕-sound, over-times, ÷-over, ⊕-over}
+use Rattle.section.proofs.Order.{≐-refl, ≐-sym, over-sound, whole-sound, ÷-sound, ⊕-sound, over-times, ÷-over, ⊕-over, at-most-same}
 use Rattle.member.specs.Fields.{KIND, field}
 use Rattle.member.specs.declared.record.Member.{Member}
 use Rattle.gauge.specs.Limit.{spanMm, spanPart, ofSpan, fifthsOf, limit}
-use Rattle.gauge.proofs.Values.{at-most-same}
 
 module _ (m : Member) where
   abbrev S : ℕ

@@ -13,9 +13,10 @@ use lib.Ieee.{Float, nan, inf, fin, binary32, odd, ofFields, ofBits}
 use lib.Ieee.Exact.{odd-sign}
 use borrow.Author.Tests.{le-leb, lt-leb, eq-eqb, ne-eqb, eqb-true, eqb-false, leb-true, leb-false}
 use Rattle.section.specs.Fraction.{over, whole, _·_, _≐_, floor}
+use Rattle.section.proofs.Choices.{decided, same-test}
 use Rattle.section.proofs.Order.{≐-refl, ≐-sym, ≐-trans, over-sound, over-times}
 use Rattle.gauge.specs.Value.{valueOf, isClear, isReading}
-use Rattle.gauge.proofs.Values.{decided, same-test, has-value, reading-by, counted-by}
+use Rattle.gauge.proofs.Values.{has-value, reading-by, counted-by}
 
 and-false : (t : Bool) → (t && false) ≡ false
 and-false true = refl

@@ -7,6 +7,8 @@ use mathlib.Core.List.{map}
 use mathlib.Core.Logic.{_⊎_, inl, inr}
 use native.Mathlib.Omega.{arith}
 use Rattle.section.specs.Fraction.{_⊑_, atMost}
+use Rattle.section.proofs.Choices.{decided}
+use Rattle.section.proofs.Order.{at-most, is-at-most, above, is-above}
 use Rattle.files.specs.Reading.{firstFault, orElse, test}
 use Rattle.files.specs.Words.{each}
 use Rattle.files.specs.declared.Reading.{Reading}
@@ -17,7 +19,7 @@ use Rattle.gauge.specs.Value.{valueOf, isReading, IsReading}
 use Rattle.gauge.specs.Gauge.{inOrder, faultOf, readingTests}
 use Rattle.gauge.specs.Fault.{readingAt, AllReadings, ReadingFault, bad-reading, after-above, MayBeGauged}
 use Rattle.gauge.specs.declared.Readings.{Readings}
-use Rattle.gauge.proofs.Values.{decided, at-most, is-at-most, above, is-above, reading-is, is-reading}
+use Rattle.gauge.proofs.Values.{reading-is, is-reading}
 
 module _ (r : Readings) where
   abbrev good : (i : ℕ) → Bool

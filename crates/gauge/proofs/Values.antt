@@ -2,21 +2,29 @@
 -- Assumes nothing.
 use Prim.Native.Nat.{ℕ, _+_, _*_, _/_, _%_, _^_, _≤_, _<_}
 use mathlib.Core.Path.{_≡_, refl, sym, ap, _∙_}
-use mathlib.Core.Bool.{Bool, true, false, not, _&&_, false≢true}
-use mathlib.Core.Logic.{_↔_, _⊎_, inl, inr}
+use mathlib.Core.Bool.{Bool, true, false, not, _&&_, false≢true, true≢false}
 use native.Mathlib.Nat.{mul-one, mul-mod-left, div-add-mod', lt-of-mul-lt-mul-right}
 use native.Mathlib.Omega.{arith}
-use lib.Dec.{eqb, leb}
+use lib.Dec.{T, eqb, leb}
 use lib.IntN.{ℤ}
-use lib.Ieee.{Float, nan, inf, fin, up, down}
+use lib.Ieee.{Float, nan, inf, fin, up, down, ne, isNan}
+use lib.Ieee.Compare.{nan-differs}
 use lib.Ieee.Fits.{down-pos}
 use lib.Ieee.Exact.{HasValue}
 use borrow.Author.Tests.{le-leb, lt-leb, leb-true, leb-false, eq-eqb, eqb-true, not-true}
 use Rattle.section.specs.Fraction.{Fraction, Sound, over, whole, _·_, _⊑_, _⊏_, _≐_, atMost, floor}
-use Rattle.section.proofs.Order.{⊑-trans, ≐-⊑, ≐-⊒, ≐-refl, ≐-sym, ≐-trans, over-sound, whole-sound, ·-sound, times-over}
+use Rattle.section.proofs.Choices.{same-test}
+use Rattle.section.proofs.Order.{≐-refl, ≐-sym, ≐-trans, over-sound, whole-sound, ·-sound, times-over, above, is-above, at-most-same}
 use Rattle.section.proofs.Rounding.{floor-same}
 use Rattle.files.proofs.Tests.{both}
 use Rattle.gauge.specs.Value.{valueOf, isClear, isWhole, isReading, IsReading}
+
+-- what equals itself is no NaN
+pub a-number : (x : Float) → ne x x ≡ false → T (not (isNan x))
+unfolding isNan
+a-number nan e = absurd (true≢false (sym nan-differs ∙ e))
+a-number (inf s) e = tt
+a-number (fin s m e') e = tt
 
 pub value-sound : (x : Float) → Sound (valueOf x)
 unfolding valueOf over whole
@@ -24,30 +32,7 @@ value-sound nan = record { above-0 = omega arith }
 value-sound (inf s) = record { above-0 = omega arith }
 value-sound (fin s m e) = record { above-0 = down-pos e }
 
--- a test holds or fails
-pub decided : (t : Bool) → (t ≡ true) ⊎ (t ≡ false)
-decided true = inl refl
-decided false = inr refl
-
--- two tests that follow from each other
-pub same-test : (a b : Bool) → (a ≡ true → b ≡ true) → (b ≡ true → a ≡ true) → a ≡ b
-same-test true b f g = sym (f refl)
-same-test false true f g = g refl
-same-test false false f g = refl
-
--- the test of at most, and of a whole number, in words
-pub at-most : (a b : Fraction) → atMost a b ≡ true → a ⊑ b
-at-most a b e = record { out = leb-true _ _ e }
-
-pub is-at-most : {a b : Fraction} → a ⊑ b → atMost a b ≡ true
-is-at-most h = le-leb _ _ (h .out)
-
-pub above : (a b : Fraction) → atMost a b ≡ false → b ⊏ a
-above a b e = record { out = leb-false _ _ e }
-
-pub is-above : {a b : Fraction} → b ⊏ a → atMost a b ≡ false
-is-above h = lt-leb _ _ (h .out)
-
+-- the test of a whole number, in words
 whole-of : (a : Fraction) → isWhole a ≡ true → a ≐ whole (floor a)
 unfolding whole floor
 whole-of a e = record { out = omega (arith, div-add-mod' (a .num) (a .den), eqb-true (a .num % a .den) 0 e) }
@@ -58,12 +43,7 @@ of-whole a n e =
     let product : a .num ≡ n * a .den = sym (mul-one (a .num)) ∙ e .out in
     eq-eqb (a .num % a .den) 0 (ap (λ (k : ℕ). k % a .den) product ∙ mul-mod-left n (a .den))
 
--- both tests go by the value alone
-pub at-most-same : {a a' b b' : Fraction} → Sound a → Sound a' → Sound b → Sound b' → a ≐ a' → b ≐ b' → atMost a b ≡ atMost a' b'
-at-most-same {a} {a'} {b} {b'} sa sa' sb sb' p q =
-    same-test (atMost a b) (atMost a' b') (λ e. is-at-most (⊑-trans sa (≐-⊒ p) (⊑-trans sb (at-most a b e) (≐-⊑ q))))
-    (λ e. is-at-most (⊑-trans sa' (≐-⊑ p) (⊑-trans sb' (at-most a' b' e) (≐-⊒ q))))
-
+-- it goes by the value alone
 whole-same : {a b : Fraction} → Sound a → Sound b → a ≐ b → isWhole a ≡ isWhole b
 whole-same {a} {b} sa sb p =
     same-test (isWhole a) (isWhole b) (λ e. of-whole b (floor a) (≐-trans sa (≐-sym p) (whole-of a e)))

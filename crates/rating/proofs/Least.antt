@@ -14,14 +14,10 @@ use lib.ListN.{length}
 use lib.Signed.{leZ, ltZ}
 use borrow.Author.Tests.{leb-true, leb-false, le-leb, lt-leb, le-ltb, lt-ltb}
 use Rattle.section.specs.Choose.{choose}
+use Rattle.section.proofs.Choices.{decided}
 use Rattle.rating.specs.Judgement.{lesser, least}
 use Rattle.rating.specs.Surveyed.{memberAt}
 use Rattle.member.specs.declared.record.Member.{Member}
-
--- a test holds or it does not
-pub decided : (t : Bool) → (t ≡ true) ⊎ (t ≡ false)
-decided true = inl refl
-decided false = inr refl
 
 -- a test of at most that orders, and the test of less that goes with it
 pub record Orders {A : Type 0} (atMost less : A → A → Bool) : Type 0 where

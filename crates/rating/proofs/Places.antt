@@ -10,7 +10,7 @@ use lib.ListN.{length}
 use Rattle.rating.specs.Judgement.{firstThat}
 use Rattle.rating.specs.Surveyed.{memberAt}
 use Rattle.member.specs.declared.record.Member.{Member}
-use Rattle.rating.proofs.Least.{decided}
+use Rattle.section.proofs.Choices.{decided}
 
 module _ (isSo : Member → Bool) where
   -- some member is so

@@ -28,7 +28,8 @@ use Rattle.rating.specs.declared.judging.Verdict.{Verdict}
 use Rattle.rating.specs.declared.judging.Rating.{Rating}
 use Rattle.rating.specs.declared.judging.Judgement.{Judgement}
 use Rattle.rating.proofs.Governing.{margin-had}
-use Rattle.rating.proofs.Least.{decided, orders-ℕ, orders-ℤ, itself, lesser-is, below-least, least-added}
+use Rattle.section.proofs.Choices.{decided}
+use Rattle.rating.proofs.Least.{orders-ℕ, orders-ℤ, itself, lesser-is, below-least, least-added}
 use Rattle.rating.proofs.Places.{place-kept, place-added}
 use Rattle.rating.proofs.Surveys.{listed}
 

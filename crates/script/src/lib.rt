@@ -9,8 +9,10 @@
 //         the others the file
 //   M n   join two surveys into a buffer: of the n bytes that follow, the first two are the buffer's length, the next two the length of the
 //         first survey, the others the first and the second
+//   G n   the readings of a gauge: of the n bytes that follow, the first two are the place, then four each the bits of empty, loaded and after
 mod buffers;
 mod calls;
+mod gauging;
 pub mod print;
 mod readings;
 mod yard;
@@ -39,6 +41,7 @@ fn wide(x: u8) -> usize
 
 fn number_at(script: &[u8], at: usize) -> usize
     requires { ⌜ at + 2 ≤ length (now script) ⌝ }
+    ensures { λ r. ⌜ r < 65536 ⌝ }
 {
     let low = wide(script[at]);
     let high = wide(script[at + 1]);
@@ -62,7 +65,7 @@ fn end_of(step: Step, from: usize, script: &[u8]) -> usize
     let letter = step.letter;
     let number = step.number;
     match letter {
-        b'T' | b'S' | b'V' | b'Y' | b'B' | b'C' | b'M' => {
+        b'T' | b'S' | b'V' | b'Y' | b'B' | b'C' | b'M' | b'G' => {
             if number <= script.len() - from {
                 from + number
             } else {
@@ -142,6 +145,34 @@ fn run_convert(bytes: &[u8]) {
     }
 }
 
+// The bits of a float: four bytes, low byte first.
+fn bits_at(bytes: &[u8], at: usize) -> u32
+    requires { ⌜ at + 4 ≤ length (now bytes) ⌝ }
+{
+    let low = number_at(bytes, at);
+    let high = number_at(bytes, at + NUMBER);
+    (low + 65536 * high) as u32
+}
+
+// A script that is cut: its bytes are printed.
+fn run_gauge(session: Session, bytes: &[u8]) -> Session
+    requires { ⌜ Valid session ⌝ }
+    ensures { λ r. ⌜ Valid r ⌝ }
+{
+    if bytes.len() < 14 {
+        print::line(bytes);
+        return session;
+    }
+    let place = number_at(bytes, 0) as u64;
+    gauging::gauge(
+        session,
+        place,
+        bits_at(bytes, 2),
+        bits_at(bytes, 6),
+        bits_at(bytes, 10),
+    )
+}
+
 fn run_step(session: Session, step: Step, bytes: &[u8]) -> Session
     requires { ⌜ Valid session ⌝ }
     ensures { λ r. ⌜ Valid r ⌝ }
@@ -164,6 +195,7 @@ fn run_step(session: Session, step: Step, bytes: &[u8]) -> Session
             run_join(bytes);
             session
         }
+        b'G' => run_gauge(session, bytes),
         _ => {
             print::line(bytes);
             session

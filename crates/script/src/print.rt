@@ -4,6 +4,8 @@ use between::BetweenJudged;
 use files::Reading;
 use files::Refusal;
 use files::output::Written;
+use gauge::Deflection;
+use gauge::Gauged;
 use libc::STDOUT_FILENO;
 use rating::judging::Judgement;
 use rating::judging::Verdict;
@@ -128,6 +130,40 @@ pub fn between(answer: BetweenJudged) {
     match answer {
         BetweenJudged::Verdict(v) => verdict_between(v),
         BetweenJudged::Refused(r) => refusal(r),
+    }
+}
+
+fn wide(x: u32) -> u64 {
+    x as u64
+}
+
+// The bits of a float; a NaN has none of its own.
+fn bits(x: f32) {
+    if x != x {
+        text(b" NaN");
+    } else {
+        number(wide(f32::to_bits(x)));
+    }
+}
+
+fn deflection(d: Deflection) {
+    match d {
+        Deflection::Within(x) => {
+            text(b" within");
+            bits(x);
+        }
+        Deflection::Over(x) => {
+            text(b" over");
+            bits(x);
+        }
+    }
+    text(b"\n");
+}
+
+pub fn gauged(answer: Gauged) {
+    match answer {
+        Gauged::Elastic(d) => deflection(d),
+        Gauged::Refused(r) => refusal(r),
     }
 }
 

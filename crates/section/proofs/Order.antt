@@ -7,9 +7,10 @@ use mathlib.Core.Bool.{Bool, true, false}
 use native.Mathlib.Nat.{mul-le-mul, mul-le-mul-right, mul-pos, le-of-mul-le-mul-right, le-refl, le-antisymm, le-of-lt, min-eq-left, min-eq-right, mul-sub, mul-comm}
 use native.Mathlib.Omega.{arith}
 use lib.Dec.{leb}
-use borrow.Author.Tests.{leb-true, leb-false}
+use borrow.Author.Tests.{leb-true, leb-false, le-leb, lt-leb}
 use Rattle.section.specs.Choose.{choose}
-use Rattle.section.specs.Fraction.{Fraction, Sound, over, whole, tenths, hundredths, square, _·_, _÷_, _⊕_, _⊖_, _⊑_, _≐_, lesser, greater}
+use Rattle.section.proofs.Choices.{same-test}
+use Rattle.section.specs.Fraction.{Fraction, Sound, over, whole, tenths, hundredths, square, _·_, _÷_, _⊕_, _⊖_, _⊑_, _⊏_, _≐_, atMost, lesser, greater}
 
 pub ⊑-refl : {a : Fraction} → a ⊑ a
 ⊑-refl = record { out = le-refl _ }
@@ -40,6 +41,25 @@ pub ≐-sym : {a b : Fraction} → a ≐ b → b ≐ a
 
 pub ≐-trans : {a b c : Fraction} → Sound b → a ≐ b → b ≐ c → a ≐ c
 ≐-trans s p q = ⊑-antisymm (⊑-trans s (≐-⊑ p) (≐-⊑ q)) (⊑-trans s (≐-⊒ q) (≐-⊒ p))
+
+-- the test of at most, in words
+pub at-most : (a b : Fraction) → atMost a b ≡ true → a ⊑ b
+at-most a b e = record { out = leb-true _ _ e }
+
+pub is-at-most : {a b : Fraction} → a ⊑ b → atMost a b ≡ true
+is-at-most h = le-leb _ _ (h .out)
+
+pub above : (a b : Fraction) → atMost a b ≡ false → b ⊏ a
+above a b e = record { out = leb-false _ _ e }
+
+pub is-above : {a b : Fraction} → b ⊏ a → atMost a b ≡ false
+is-above h = lt-leb _ _ (h .out)
+
+-- it goes by the values alone
+pub at-most-same : {a a' b b' : Fraction} → Sound a → Sound a' → Sound b → Sound b' → a ≐ a' → b ≐ b' → atMost a b ≡ atMost a' b'
+at-most-same {a} {a'} {b} {b'} sa sa' sb sb' p q =
+    same-test (atMost a b) (atMost a' b') (λ e. is-at-most (⊑-trans sa (≐-⊒ p) (⊑-trans sb (at-most a b e) (≐-⊑ q))))
+    (λ e. is-at-most (⊑-trans sa' (≐-⊑ p) (⊑-trans sb' (at-most a' b' e) (≐-⊒ q))))
 
 pub ·-mono : {a a' b b' : Fraction} → a ⊑ a' → b ⊑ b' → a · b ⊑ a' · b'
 unfolding _·_

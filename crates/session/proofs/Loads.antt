@@ -11,7 +11,7 @@ use Rattle.files.specs.declared.Refusal.{Refusal}
 use Rattle.files.proofs.Faults.{reading-case}
 use Rattle.surveys.proofs.Surveys as surveys
 use Rattle.vehicles.proofs.Vehicles as vehicles
-use Rattle.session.specs.Answers.{Answer, Values, WithMargin, RefusedAt, refusedBy}
+use Rattle.session.specs.Answers.{Answer, Values, WithMargin, WithDeflection, RefusedAt, refusedBy}
 use Rattle.session.specs.Calls.{loadSurvey, loadVehicle, storedSurvey, storedVehicle}
 use Rattle.session.specs.declared.Session.{Session}
 
@@ -19,6 +19,7 @@ use Rattle.session.specs.declared.Session.{Session}
 abbrev pub isRefusal : Answer → Bool
 isRefusal (Values values) = false
 isRefusal (WithMargin values margin) = false
+isRefusal (WithDeflection values deflection) = false
 isRefusal (RefusedAt n p) = true
 
 pub no-refusal : {X : Type 0} (a : Answer) (n p : ℕ) → isRefusal a ≡ false → a ≡ RefusedAt n p → X

@@ -1,6 +1,6 @@
 -- What the tests of the state say where they find no fault, and that every call leaves a valid session.
 -- Assumes nothing.
-use Prim.Native.Nat.{ℕ, _*_, _≤_, _<_}
+use Prim.Native.Nat.{ℕ, _-_, _*_, _≤_, _<_}
 use mathlib.Core.Path.{_≡_}
 use mathlib.Core.Bool.{not}
 use mathlib.Core.List.{List, [], _∷_}
@@ -9,8 +9,10 @@ use native.Mathlib.Omega.{arith}
 use Rattle.member.specs.Fields.{MOST-MEMBERS}
 use lib.Dec.{eqb, leb}
 use lib.ListN.{replicate}
+use lib.Seq.{getD-take}
 use borrow.Author.Tests.{ne-eqb, le-leb, leb-true}
-use Rattle.member.specs.Format.{In, _‥_}
+use Rattle.member.specs.Format.{AllowedMember, AllowedVehicle, In, _‥_}
+use Rattle.rating.specs.Surveyed.{memberAt}
 use Rattle.files.specs.Reading.{_unless_, isIn}
 use Rattle.surveys.specs.SurveyFile.{readSurvey}
 use Rattle.vehicles.specs.VehicleFile.{VEHICLE-VERSIONS, readVehicle}
@@ -22,7 +24,7 @@ use Rattle.files.proofs.Tests.{not-none, none, passed, in-range, range-in}
 use Rattle.vehicles.proofs.Vehicles.{taken-vehicle-allowed}
 use Rattle.between.proofs.Pairs.{taken-survey-allowed}
 use Rattle.session.specs.Answers.{loaded, judged, judgeAnswer, refusedBy}
-use Rattle.session.specs.Calls.{Valid, newSession, stateFault, rateFault, judgeFault, loadSurvey, loadVehicle, judge, loadFiles, thenJudge}
+use Rattle.session.specs.Calls.{Valid, newSession, members, stateFault, rateFault, judgeFault, loadSurvey, loadVehicle, judge, loadFiles, thenJudge}
 use Rattle.session.specs.declared.AfterJudge.{AfterJudge}
 use Rattle.session.specs.declared.AfterLoad.{AfterLoad}
 use Rattle.session.specs.declared.Session.{Session}
@@ -69,6 +71,27 @@ valid-vehicle s bytes h e = record { survey = h .survey; vehicle = λ l. taken-v
 -- a survey has at most as many members as a file can
 pub few-members : (s : Session) → Valid s → s .survey .count ≤ MOST-MEMBERS
 few-members s h = elim (decLe (s .survey .count) 0) [ yes l ↦ omega arith | no l ↦ h .survey (omega arith) .count .1 ]
+
+-- where rate's tests find no fault the place is of the survey, and the member there and the vehicle are allowed
+pub record AtPlace (s : Session) (place : ℕ) : Type 0 where
+  pub first : 1 ≤ place
+  pub index : place - 1 < MOST-MEMBERS
+  pub member : AllowedMember (memberAt (s .survey .members) (place - 1))
+  pub vehicle : AllowedVehicle (s .vehicle)
+  pub used : memberAt (members s) (place - 1) ≡ memberAt (s .survey .members) (place - 1)
+
+pub at-place : (s : Session) (place : ℕ) → Valid s → rateFault (s .survey .count) (s .vehicle .axles) place ≡ 0 → AtPlace s place
+at-place s place valid e =
+    let clear = rate-clear (s .survey .count) (s .vehicle .axles) place e in
+    let survey = valid .survey (clear .0 .survey) in
+    let inside : place - 1 < s .survey .count = omega (arith, clear .1) in
+    record {
+      first = clear .1 .0;
+      index = omega (arith, survey .count);
+      member = survey .members (place - 1) inside;
+      vehicle = valid .vehicle (clear .0 .vehicle);
+      used = getD-take (s .survey .count) (s .survey .members) (place - 1) _ inside;
+    }
 
 -- a load by its answer: what was read is stored, or nothing is
 pub survey-stored : (s : Session) (bytes : List ℕ) (r : SurveyRead) → r ≡ readSurvey bytes → r .answer ≡ Taken →

@@ -14,7 +14,7 @@ use Rattle.vehicles.proofs.Yards.{take-most, drop-most, one-more-file, left-aft
 use Rattle.rating.specs.declared.judging.Judgement.{Judgement}
 use Rattle.rating.specs.declared.judging.Verdict.{Verdict}
 use Rattle.rating.specs.declared.judging.Verdict.the-variants.{Pass, Refuse}
-use Rattle.session.specs.Answers.{Answer, Values, WithMargin, RefusedAt, loadAnswer, judgeAnswer, verdictNumber, judgementAnswer, refusedBy}
+use Rattle.session.specs.Answers.{Answer, Values, WithMargin, WithDeflection, RefusedAt, loadAnswer, judgeAnswer, verdictNumber, judgementAnswer, refusedBy}
 use Rattle.session.specs.Calls.{unlessRefused}
 use Rattle.session.specs.Yard.{Entry, entries, alone, passing, firstRefusal}
 use Rattle.session.specs.YardRun.{answersTo, withAnswer, Ran}
@@ -30,6 +30,7 @@ pub first-append : (xs ys : List Answer) (x : Answer) → firstRefusal (xs ++ ys
 first-append [] ys x = refl
 first-append (Values v ∷ xs) ys x = first-append xs ys x
 first-append (WithMargin v m ∷ xs) ys x = first-append xs ys x
+first-append (WithDeflection v d ∷ xs) ys x = first-append xs ys x
 first-append (RefusedAt n p ∷ xs) ys x = refl
 
 -- a row with no refusal leaves what stands behind it, and one with a refusal does not come to it
@@ -37,12 +38,14 @@ pub first-none : (xs : List Answer) (x : Answer) → firstRefusal xs (Values [])
 first-none [] x e = refl
 first-none (Values v ∷ xs) x e = first-none xs x e
 first-none (WithMargin v m ∷ xs) x e = first-none xs x e
+first-none (WithDeflection v d ∷ xs) x e = first-none xs x e
 first-none (RefusedAt n p ∷ xs) x e = never-both [] n p (sym e)
 
 pub first-some : (xs : List Answer) (x : Answer) (n p : ℕ) → firstRefusal xs (Values []) ≡ RefusedAt n p → firstRefusal xs x ≡ RefusedAt n p
 first-some [] x n p e = never-both [] n p e
 first-some (Values v ∷ xs) x n p e = first-some xs x n p e
 first-some (WithMargin v m ∷ xs) x n p e = first-some xs x n p e
+first-some (WithDeflection v d ∷ xs) x n p e = first-some xs x n p e
 first-some (RefusedAt m q ∷ xs) x n p e = e
 
 -- the answers with one vehicle more

@@ -7,7 +7,7 @@ use mathlib.Core.List.{List, [], _∷_, _++_, map, map-append}
 use lib.ListN.{length, take, drop, length-map}
 use Rattle.vehicles.specs.YardFile.{vehiclesOf}
 use Rattle.rating.specs.declared.judging.Judgement.{Judgement}
-use Rattle.session.specs.Answers.{Answer, Values, WithMargin, RefusedAt, yardJudged, judgementAnswer}
+use Rattle.session.specs.Answers.{Answer, Values, WithMargin, WithDeflection, RefusedAt, yardJudged, judgementAnswer}
 use Rattle.session.specs.Calls.{Valid, unlessRefused}
 use Rattle.session.specs.Yard.{entries, vehicleAnswers, yardAnswered, judgeYard, yardList}
 use Rattle.session.specs.YardRun.{Answered}
@@ -28,6 +28,7 @@ written : (a : Answer) (s : Session) (yard : List ℕ) (ys found : List Judgemen
     entries (take count found ++ drop count ys) ≡ unlessRefused a (entries ys) (vehicleAnswers s yard ++ drop (vehiclesOf yard) (entries ys))
 written (Values v) s yard ys found count c e = both-parts found ys count ∙ rw (e, c)
 written (WithMargin v m) s yard ys found count c e = both-parts found ys count ∙ rw (e, c)
+written (WithDeflection v d) s yard ys found count c e = both-parts found ys count ∙ rw (e, c)
 written (RefusedAt n p) s yard ys found count c e = both-parts found ys count ∙ rw (e, c)
 
 -- the clauses of `judge_yard`, in the order of its contract: s and the yard are passed, the list is ys on entry and zs at exit

@@ -1,7 +1,7 @@
 -- The answers' numbers: a number and values for every case of each answer, those of the documents where they have them.
 use Prim.Native.Nat.{ℕ}
 use mathlib.Core.List.{List, [], _∷_}
-pub use Rattle.files.specs.Answer.{Answer, Values, WithMargin, RefusedAt, refusedBy}
+pub use Rattle.files.specs.Answer.{Answer, Values, WithMargin, WithDeflection, RefusedAt, refusedBy}
 use Rattle.files.specs.declared.Reading.{Reading}
 use Rattle.files.specs.declared.Reading.the-variants.{Taken, Refused}
 use Rattle.rating.specs.declared.judging.Judgement.{Judgement}
@@ -13,9 +13,15 @@ use Rattle.between.specs.declared.Between.the-variants.{All, None, Undecided}
 use Rattle.between.specs.declared.BetweenJudged.{BetweenJudged}
 use Rattle.between.specs.declared.BetweenJudged.the-variants.{Verdict as Given}
 use Rattle.between.specs.declared.BetweenJudged.the-variants.{Refused as NotBetween}
+use Rattle.gauge.specs.declared.Deflection.{Deflection}
+use Rattle.gauge.specs.declared.Deflection.the-variants.{Within, Over}
+use Rattle.gauge.specs.declared.Gauged.{Gauged}
+use Rattle.gauge.specs.declared.Gauged.the-variants.{Elastic}
+use Rattle.gauge.specs.declared.Gauged.the-variants.{Refused as NotGauged}
 use Rattle.session.specs.declared.AfterJudge.{AfterJudge}
 use Rattle.session.specs.declared.AfterLoad.{AfterLoad}
 use Rattle.session.specs.declared.AfterRate.{AfterRate}
+use Rattle.session.specs.declared.gauging.AfterGauge.{AfterGauge}
 use Rattle.session.specs.declared.readings.AfterBetween.{AfterBetween}
 use Rattle.session.specs.declared.yard.AfterYard.{AfterYard}
 use Rattle.session.specs.declared.Judged.{Judged}
@@ -33,17 +39,20 @@ use Rattle.session.specs.declared.yard.YardJudged.the-variants.{Refused 
 abbrev pub numberOf : Answer → ℕ
 numberOf (Values values) = 0
 numberOf (WithMargin values margin) = 0
+numberOf (WithDeflection values deflection) = 0
 numberOf (RefusedAt number place) = number
 
 abbrev pub placeOf : Answer → ℕ
 placeOf (Values values) = 0
 placeOf (WithMargin values margin) = 0
+placeOf (WithDeflection values deflection) = 0
 placeOf (RefusedAt number place) = place
 
--- its values without the margin
+-- its values without margin and deflection
 abbrev pub valuesOf : Answer → List ℕ
 valuesOf (Values values) = values
 valuesOf (WithMargin values margin) = values
+valuesOf (WithDeflection values deflection) = values
 valuesOf (RefusedAt number place) = []
 
 -- pass is 1, refuse is 0
@@ -95,6 +104,15 @@ abbrev pub betweenAnswer : BetweenJudged → Answer
 betweenAnswer (Given b) = Values (betweenNumber b ∷ [])
 betweenAnswer (NotBetween r) = refusedBy r
 
+-- document 02, request 11/13: "within or over, each carrying the deflection"; their numbers are those of pass and refuse
+abbrev pub deflectionAnswer : Deflection → Answer
+deflectionAnswer (Within d) = WithDeflection (1 ∷ []) d
+deflectionAnswer (Over d) = WithDeflection (0 ∷ []) d
+
+abbrev pub gaugeAnswer : Gauged → Answer
+gaugeAnswer (Elastic d) = deflectionAnswer d
+gaugeAnswer (NotGauged r) = refusedBy r
+
 -- what a call leaves and answers
 pub record Outcome : Type 0 where
   pub session : Session
@@ -114,3 +132,6 @@ yardJudged r = record { session = r .session; answer = yardAnswer (r .answer) }
 
 abbrev pub betweenJudged : AfterBetween → Outcome
 betweenJudged r = record { session = r .session; answer = betweenAnswer (r .answer) }
+
+abbrev pub gaugeRead : AfterGauge → Outcome
+gaugeRead r = record { session = r .session; answer = gaugeAnswer (r .answer) }

@@ -1,5 +1,5 @@
--- The four calls. Document 01, 'Calls': "Load a survey, load a vehicle, rate one place, judge." `Yard` and `Readings`
--- have two more.
+-- The four calls. Document 01, 'Calls': "Load a survey, load a vehicle, rate one place, judge." `Yard`, `Readings` and `Gauging`
+-- have three more.
 use Prim.Native.Nat.{ℕ, _-_, _*_, _<_}
 use mathlib.Core.Bool.{not}
 use mathlib.Core.List.{List, [], _∷_}
@@ -18,7 +18,7 @@ use Rattle.files.specs.declared.Reading.{Reading}
 use Rattle.files.specs.declared.Reading.the-variants.{Taken, Refused}
 use Rattle.member.specs.declared.record.Survey.{Survey}
 use Rattle.member.specs.declared.record.Vehicle.{Vehicle}
-use Rattle.session.specs.Answers.{Answer, Values, WithMargin, RefusedAt, Outcome, refusedBy, ratingAnswer, judgementAnswer}
+use Rattle.session.specs.Answers.{Answer, Values, WithMargin, WithDeflection, RefusedAt, Outcome, refusedBy, ratingAnswer, judgementAnswer}
 use Rattle.session.specs.declared.Session.{Session}
 
 -- a session with nothing loaded
@@ -92,6 +92,7 @@ judgeList s list =
 abbrev pub unlessRefused : {A : Type 0} → Answer → (refused next : A) → A
 unlessRefused (Values values) refused next = next
 unlessRefused (WithMargin values margin) refused next = next
+unlessRefused (WithDeflection values deflection) refused next = next
 unlessRefused (RefusedAt number place) refused next = refused
 
 abbrev pub andThen : Outcome → (Session → Outcome) → Outcome

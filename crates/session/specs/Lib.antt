@@ -3,3 +3,4 @@ pub mod Calls
 pub mod Yard
 pub mod YardRun
 pub mod Readings
+pub mod Gauging

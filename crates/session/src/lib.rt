@@ -1,11 +1,12 @@
 // The session: the survey and the vehicle that are loaded, and the calls; `yard` has the one that judges a yard of vehicles, `readings` the
-// one on two surveys between which rot was read. A session goes in by value and comes back beside the answer.
+// one on two surveys between which rot was read, `gauging` the one on the readings of a gauge. A session goes in by value and comes back beside the answer.
 ghost use mathlib.Core.Path.{_≡_};
 ghost use Rattle.session.specs.Answers.{verdictNumber, loaded, rated, judged, judgeAnswer};
 ghost use Prim.Native.Nat.{_≤_};
 ghost use Rattle.member.specs.Fields.{MOST-MEMBERS};
 ghost use Rattle.session.specs.Calls.{Valid, newSession, loadSurvey, loadVehicle, stateFault, rateFault, judgeFault, rate, judge, judgeList, loadFiles, thenJudge, judgeFiles};
 
+pub mod gauging;
 pub mod readings;
 pub mod yard;
 

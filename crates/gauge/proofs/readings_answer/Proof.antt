@@ -12,7 +12,8 @@ use Rattle.gauge.specs.Counted.{countedOf}
 use Rattle.gauge.specs.Gauge.{readingTests}
 use Rattle.gauge.specs.Value.{isReading}
 use Rattle.gauge.specs.declared.Readings.{Readings}
-use Rattle.gauge.proofs.Values.{decided, reading-counted, counts-in-order}
+use Rattle.section.proofs.Choices.{decided}
+use Rattle.gauge.proofs.Values.{reading-counted, counts-in-order}
 use Rattle.gauge.proofs.readings_answer.Statement.{statement}
 use Rattle.gauge.proofs.readings_answer.Tie as tie
 

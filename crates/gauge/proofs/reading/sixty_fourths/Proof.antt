@@ -2,17 +2,18 @@
 -- Assumes nothing.
 use Prim.Native.Nat.{ℕ, _%_, _/_, _≤_}
 use mathlib.Core.Path.{_≡_, refl, sym, _∙_, ap, subst}
-use mathlib.Core.Bool.{Bool, true, false, not, true≢false}
+use mathlib.Core.Bool.{true, false}
 use native.Mathlib.Omega.{arith}
 use lib.Dec.{T}
-use lib.Ieee.{Float, nan, inf, fin, binary32, ne, isNan, fits, toBits, ofBits, ofFields, odd}
+use lib.Ieee.{Float, binary32, ne, toBits, ofBits}
 use lib.Ieee.Bits.{ofBits-toBits}
-use lib.Ieee.Compare.{differs-from-itself, nan-differs}
+use lib.Ieee.Compare.{differs-from-itself}
 use borrow.Author.Needs.{needs}
 use borrow.Author.Tests.{eq-eqb, ne-eqb}
 use Rattle.section.specs.Fraction.{over, whole, _·_, floor}
 use Rattle.gauge.specs.Value.{valueOf, isReading}
 use Rattle.gauge.specs.Counted.{counted, noReading, countedOf}
+use Rattle.gauge.proofs.Values.{a-number}
 use Rattle.gauge.proofs.Patterns.{below-readings, above-readings, partsOf, in-parts, parts-counted}
 use Rattle.gauge.proofs.reading.sixty_fourths.Statement.{statement}
 use Rattle.gauge.proofs.reading.sixty_fourths.Tie as tie
@@ -27,12 +28,6 @@ none x e = rw e
 no-number : (x : Float) → ne x x ≡ true → isReading x ≡ false
 unfolding isReading
 no-number x e = rw (differs-from-itself x (subst T (sym e) tt))
-
-a-number : (x : Float) → ne x x ≡ false → T (not (isNan x))
-unfolding isNan
-a-number nan e = absurd (true≢false (sym nan-differs ∙ e))
-a-number (inf s) e = tt
-a-number (fin s m e') e = tt
 
 no-bit : counted 0 ≡ countedOf (ofBits binary32 0)
 unfolding isReading valueOf whole over _·_ floor ofBits

@@ -1,0 +1,43 @@
+// Gauges under a test load: the readings of a gauge under one member, with the loaded vehicle as the load.
+use crate::Session;
+use crate::rate_fault;
+use files::Refusal;
+use gauge::Gauged;
+use gauge::Readings;
+use gauge::gauge;
+ghost use mathlib.Core.Path.{_≡_};
+ghost use Rattle.session.specs.Answers.{gaugeRead};
+ghost use Rattle.session.specs.Calls.{Valid};
+ghost use Rattle.session.specs.Gauging.{gauge};
+
+pub struct AfterGauge {
+    pub session: Session,
+    pub answer: Gauged,
+}
+
+impl Session {
+    // The elastic deflection of the member at a place, within its limit or over it.
+    pub fn gauge(self, place: u64, readings: Readings) -> AfterGauge
+        requires { ⌜ Valid self ⌝ }
+        ensures is { λ r. ⌜ gaugeRead r ≡ gauge self place readings ⌝ }
+        ensures valid { λ r. ⌜ Valid (r .session) ⌝ }
+    {
+        let survey = self.survey;
+        let vehicle = self.vehicle;
+        let number = rate_fault(survey.count, vehicle.axles, place);
+        if number != 0 {
+            let answer = Gauged::Refused(Refusal { number, place: 0 });
+            return AfterGauge {
+                session: self,
+                answer,
+            };
+        }
+        let at = (place - 1) as usize;
+        let m = survey.members[at];
+        let answer = gauge(m, vehicle.class, readings);
+        AfterGauge {
+            session: self,
+            answer,
+        }
+    }
+}
