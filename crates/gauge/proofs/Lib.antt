@@ -3,3 +3,4 @@ mod Patterns
 pub mod Differences
 mod Limits
 pub mod Refusals
+pub mod Claims

@@ -3,3 +3,4 @@ pub mod Limit
 pub mod Gauge
 pub mod Fault
 pub mod Counted
+pub mod Claims
