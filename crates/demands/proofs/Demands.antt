@@ -54,13 +54,16 @@ use Rattle.session.specs.Answers.{Outcome, Values, WithMargin, RefusedAt, refus
 use Rattle.session.specs.Calls.{newSession, members, stateFault, rateFault, judgeFault, loadSurvey, loadVehicle, storedSurvey, storedVehicle, unlessFault, rate, judge, judgeList, loadFiles, thenJudge, judgeFiles}
 use Rattle.demands.specs.Demands.{Demand1, Demand2, Demand3}
 use Rattle.demands.specs.Parts.{FromState, RefusedBoth, Answers, FilesAnswered, Covers, Falls}
-use Rattle.demands.specs.History.{Call, TakenLast, Holds, after}
+use Rattle.demands.specs.GaugeCall.{no-survey as no-gauge-survey, no-vehicle as no-gauge-vehicle}
+use Rattle.demands.specs.History.{Call, LoadSurvey, TakesSurvey, LastTakes, TakenLast, Holds, after}
 use Rattle.demands.specs.YardCall.{no-survey}
 use Rattle.session.specs.declared.Session.{Session}
 use Rattle.demands.proofs.History.{survey-stays, vehicle-stays, survey-last, last-held, in-turn, in-reverse, calls-valid}
 use Rattle.session.proofs.Loads.{no-refusal, never-both, survey-read, vehicle-read, survey-load, vehicle-load, survey-refused, vehicle-refused, other-survey}
-use Rattle.session.proofs.State.{valid-new, judge-ready}
+use Rattle.session.proofs.State.{valid-new, judge-ready, no-survey-fault, no-vehicle-fault, no-place-fault}
 use Rattle.demands.proofs.Answered.{all-answers}
+use Rattle.gauge.proofs.Claims.{loses-nothing}
+use Rattle.demands.proofs.GaugeLaws.{gauge-answered, gauge-taken}
 use Rattle.demands.proofs.ReadingsLaws.{between-answered, between-taken, between-bounds}
 use Rattle.demands.proofs.YardLaws.{yard-answered, yard-taken}
 
@@ -112,14 +115,17 @@ taken-loaded survey t =
     let e = survey-read newSession survey t in
     rw (survey-load newSession survey e) (surveys.taken-allowed survey e .count .0)
 
+some-survey : (calls : List Call) (survey : List ℕ) → LastTakes TakesSurvey (LoadSurvey survey) newSession calls → 0 < after newSession calls .survey .count
+some-survey calls survey h = rw (survey-last survey h .1) (taken-loaded survey (survey-last survey h .0))
+
 -- where nothing is loaded
 none-refused : (s : Session) → s .survey .count ≡ 0 → RefusedBoth s 11
-unfolding rate judge rateFault judgeFault stateFault
-none-refused s e = (λ place. rw e, λ list. rw e)
+unfolding rate judge judgeFault stateFault
+none-refused s e = (λ place. rw (no-survey-fault (s .survey .count) (s .vehicle .axles) place e), λ list. rw e)
 
 half-refused : (s : Session) → 0 < s .survey .count → s .vehicle .axles ≡ 0 → RefusedBoth s 12
-unfolding rate judge rateFault judgeFault stateFault
-half-refused s h e = (λ place. rw (ne-eqb (s .survey .count) 0 (omega arith), e), λ list. rw (ne-eqb (s .survey .count) 0 (omega arith), e))
+unfolding rate judge judgeFault stateFault
+half-refused s h e = (λ place. rw (no-vehicle-fault (s .survey .count) (s .vehicle .axles) place h e), λ list. rw (ne-eqb (s .survey .count) 0 (omega arith), e))
 
 pub demand1 : Demand1
 unfolding loadSurvey loadVehicle rate judge
@@ -140,8 +146,7 @@ demand1 =
       rate-answered = λ s place. fault-answer (In (11 ‥ 13)) _ _ _ (rate-number (s .survey .count) (s .vehicle .axles) place);
       judge-answered = λ s list. fault-answer (λ n. (In (11 ‥ 12) n) ⊎ (n ≡ 14)) _ _ _ (judge-number (s .survey .count) (s .vehicle .axles) (length list));
       no-survey = λ calls h. none-refused (after newSession calls) (rw (survey-stays newSession calls h));
-      no-vehicle = λ calls survey h n.
-          half-refused (after newSession calls) (rw (survey-last survey h .1) (taken-loaded survey (survey-last survey h .0))) (rw (vehicle-stays newSession calls n));
+      no-vehicle = λ calls survey h n. half-refused (after newSession calls) (some-survey calls survey h) (rw (vehicle-stays newSession calls n));
       valid = λ calls. calls-valid newSession calls valid-new;
       survey-kept = λ s bytes n p.
           reading-case (readSurvey bytes .answer) (λ a. storedSurvey s a (readSurvey bytes .survey) .answer ≡ RefusedAt n p → storedSurvey s a (readSurvey bytes .survey) .session ≡ s)
@@ -160,6 +165,11 @@ demand1 =
       between-no-vehicle = λ calls h first second list.
           between-answered (after newSession calls) first second list .named 12 0 (no-vehicle (rw (vehicle-stays newSession calls h)));
       between-answered = between-answered;
+      gauge-no-survey = λ calls h place r.
+          gauge-answered (after newSession calls) place r .named 11 0 (no-gauge-survey (rw (survey-stays newSession calls h)));
+      gauge-no-vehicle = λ calls survey h n place r.
+          gauge-answered (after newSession calls) place r .named 12 0 (no-gauge-vehicle (some-survey calls survey h) (rw (vehicle-stays newSession calls n)));
+      gauge-answered = gauge-answered;
       convert-answered = convert-answered;
       join-answered = join-answered;
     }
@@ -218,6 +228,8 @@ demand2 =
       other-member = other-member;
       mean-in-range = mean-in-range;
       joined-loads = λ s first second out n w. allowed-loads s (joinedSurvey first second out n) (join-taken first second out .files n w .allowed);
+      gauged = gauge-taken;
+      loses-nothing = loses-nothing;
     }
 
 -- both loads of two files: where they are taken the survey is allowed, and is what the session then holds
@@ -300,9 +312,8 @@ same-way e e' way =
 
 -- where the place, or the list, is wrong
 place-refused : (s : Session) (place : ℕ) → 0 < s .survey .count → 0 < s .vehicle .axles → ¬ (In (1 ‥ s .survey .count) place) → rate s place .answer ≡ RefusedAt 13 0
-unfolding rate rateFault stateFault
-place-refused s place hm ha hp =
-    rw (ne-eqb (s .survey .count) 0 (omega arith), ne-eqb (s .vehicle .axles) 0 (omega arith), refutes (isIn (1 ‥ s .survey .count) place) (in-range _ _) hp)
+unfolding rate
+place-refused s place hm ha hp = rw (no-place-fault (s .survey .count) (s .vehicle .axles) place hm ha hp)
 
 list-refused : (s : Session) (list : List ℕ) → 0 < s .survey .count → 0 < s .vehicle .axles → length list < 2 * s .survey .count → judge s list .answer ≡ RefusedAt 14 0
 unfolding judge judgeFault stateFault

@@ -1,6 +1,6 @@
 -- The three demands, each a record whose parts stand under the sentence that they state. proofs/Demands.antt proves each of them, of
--- the calls' definitions (session/specs: Calls, Yard, Readings; convert/specs/Convert.antt; join/specs/Join.antt); the contracts of `Session`, of
--- `convert` and of `join` tie the code to those.
+-- the calls' definitions (session/specs: Calls, Yard, Readings, Gauging; convert/specs/Convert.antt; join/specs/Join.antt); the contracts of `Session`,
+-- of `convert` and of `join` tie the code to those.
 use Prim.Native.Nat.{ℕ, _<_}
 use mathlib.Core.Path.{_≡_}
 use mathlib.Core.List.{List, [], _∷_}
@@ -30,6 +30,10 @@ use Rattle.session.specs.Answers.{Values, RefusedAt, refusedBy, judgementAnswer
 use Rattle.session.specs.Calls.{Valid, newSession, members, loadSurvey, loadVehicle, rate, judge, judgeList, judgeFiles}
 use Rattle.demands.specs.History.{Call, LoadSurvey, LoadVehicle, after, TakesSurvey, TakesVehicle, NoneTakes, LastTakes, TakenLast, Holds}
 use Rattle.demands.specs.Parts.{FromState, RefusedBoth, Answers, FilesAnswered, Margin, Governs, Covers, Falls, permittedAt, vehicleLoadAt, judgementIn}
+use Rattle.gauge.specs.Claims.{LosesNothing}
+use Rattle.gauge.specs.declared.Readings.{Readings}
+use Rattle.session.specs.Gauging.{gauge}
+use Rattle.demands.specs.GaugeCall.{GaugeAnswered, GaugeTaken}
 use Rattle.session.specs.Readings.{judgeBetween}
 use Rattle.demands.specs.ReadingsCall.{Gives, BetweenAnswered, BetweenTaken, BetweenBounds}
 use Rattle.session.specs.Yard.{Entry, judgeYard}
@@ -74,6 +78,14 @@ pub record Demand1 : Type 0 where
   pub between-no-vehicle : (calls : List Call) → NoneTakes TakesVehicle newSession calls → (first second list : List ℕ) →
       judgeBetween (after newSession calls) first second list .answer ≡ RefusedAt 12 0
   pub between-answered : (s : Session) (first second list : List ℕ) → BetweenAnswered s first second list
+  -- and of the call on a gauge's readings, request 11/13
+  pub gauge-no-survey : (calls : List Call) → NoneTakes TakesSurvey newSession calls → (place : ℕ) (r : Readings) →
+      gauge (after newSession calls) place r .answer ≡ RefusedAt 11 0
+  pub gauge-no-vehicle : (calls : List Call) (survey : List ℕ) → LastTakes TakesSurvey (LoadSurvey survey) newSession calls →
+      NoneTakes TakesVehicle newSession calls →
+      (place : ℕ) (r : Readings) →
+      gauge (after newSession calls) place r .answer ≡ RefusedAt 12 0
+  pub gauge-answered : (s : Session) (place : ℕ) (r : Readings) → GaugeAnswered s place r
   -- and of the converter, request 9/13, which needs no session
   pub convert-answered : (wanted : Wanted) (file out : List ℕ) → ConvertAnswered wanted file out
   -- and of the join of two surveys, request 10/13: "the joined survey is not loaded", so it needs none either
@@ -119,6 +131,10 @@ pub record Demand2 : Type 0 where
   pub mean-in-range : MeanInRange
   pub joined-loads : (s : Session) (first second out : List ℕ) (n : ℕ) → JoinWrites first second out n →
       loadSurvey s (joinedSurvey first second out n) .answer ≡ Values []
+  -- request 11/13: a gauge's readings under a member give its elastic deflection, within the limit or over it; "the subtraction loses nothing, and
+  -- that is to be shown"
+  pub gauged : (s : Session) (place : ℕ) (r : Readings) → GaugeTaken s place r
+  pub loses-nothing : LosesNothing
 
 -- Demand 3.
 pub record Demand3 : Type 0 where

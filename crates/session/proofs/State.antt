@@ -20,7 +20,7 @@ use Rattle.files.specs.declared.Reading.the-variants.{Taken, Refused}
 use Rattle.files.specs.declared.Refusal.{Refusal}
 use Rattle.surveys.specs.declared.SurveyRead.{SurveyRead}
 use Rattle.vehicles.specs.declared.VehicleRead.{VehicleRead}
-use Rattle.files.proofs.Tests.{not-none, none, passed, in-range, range-in}
+use Rattle.files.proofs.Tests.{not-none, none, passed, in-range, range-in, refutes}
 use Rattle.vehicles.proofs.Vehicles.{taken-vehicle-allowed}
 use Rattle.between.proofs.Pairs.{taken-survey-allowed}
 use Rattle.session.specs.Answers.{loaded, judged, judgeAnswer, refusedBy}
@@ -136,6 +136,20 @@ pub load-judged : (o : AfterLoad) (r : AfterJudge) → o .answer ≡ Taken → j
     judgeAnswer (r .answer) ≡ thenJudge (loaded o) .answer
 unfolding thenJudge
 load-judged o r t j = rw (t, ← j)
+
+-- the first of rate's tests that fails
+module _ (members axles place : ℕ) where
+  pub no-survey-fault : members ≡ 0 → rateFault members axles place ≡ 11
+  unfolding rateFault stateFault
+  no-survey-fault e = rw e
+
+  pub no-vehicle-fault : 0 < members → axles ≡ 0 → rateFault members axles place ≡ 12
+  unfolding rateFault stateFault
+  no-vehicle-fault hm e = rw (ne-eqb members 0 (omega arith), e)
+
+  pub no-place-fault : 0 < members → 0 < axles → ¬ (In (1 ‥ members) place) → rateFault members axles place ≡ 13
+  unfolding rateFault stateFault
+  no-place-fault hm ha hp = rw (ne-eqb members 0 (omega arith), ne-eqb axles 0 (omega arith), refutes (isIn (1 ‥ members) place) (in-range _ _) hp)
 
 -- no fault where both files are loaded and the place, or the list, is right
 pub rate-ready : (members axles place : ℕ) → 0 < members → 0 < axles → In (1 ‥ members) place → rateFault members axles place ≡ 0
