@@ -54,7 +54,8 @@ pub has-value : (x : Float) (a c : ℕ) → HasValue x false a c → (isClear x 
 unfolding valueOf over
 has-value nan a c h = absurd h
 has-value (inf s) a c h = absurd h
-has-value (fin s m e) a c h = (ap not (h .0), record { out = h .1 })
+has-value (fin true m e) a c h = absurd (true≢false (h .0))
+has-value (fin false m e) a c h = (refl, record { out = h .1 })
 
 -- the tests of a float whose value is a / c
 module _ (x : Float) (a c : ℕ) (above-0 : 0 < c) (clear : isClear x ≡ true) (value : valueOf x ≐ over a c) where

@@ -67,7 +67,7 @@ no-reading-requires-2 c κs = search needs
 returns-3 : tie.Need-returns-3
 returns-3 c =
     c .no-reading2 .ensures ∙
-    none _ (subst (λ (x : Float). isReading x ≡ false) (pattern (c .before .before .before .before)) (below-readings _ (c .before .before .if2 .left) (c .before .if3 .taken)))
+    none _ (subst (λ (x : Float). isReading x ≡ false) (pattern (c .before .before .before .before)) (below-readings _ (c .before .before .if2 .left) (omega (arith, c .before .if3 .taken))))
 
 no-reading-requires-3 : tie.Need-no-reading-requires-3
 no-reading-requires-3 c κs = search needs
@@ -75,7 +75,7 @@ no-reading-requires-3 c κs = search needs
 returns-4 : tie.Need-returns-4
 returns-4 c =
     c .no-reading3 .ensures ∙
-    none _ (subst (λ (x : Float). isReading x ≡ false) (pattern (c .before .before .before .before .before)) (above-readings _ (c .before .if4 .taken)))
+    none _ (subst (λ (x : Float). isReading x ≡ false) (pattern (c .before .before .before .before .before)) (above-readings _ (omega (arith, c .before .if4 .taken))))
 
 add-scaled : tie.Need-add-scaled
 add-scaled c = search needs
@@ -92,7 +92,7 @@ returns-5 c =
     let field = found .before in
     c .no-reading4 .ensures ∙
     none _
-    (beside _ _ _ (pattern (field .before .before .before .before)) (field .before .if3 .left) (field .if4 .left) (found .scaled .ensures) (c .before .if5 .taken))
+    (beside _ _ _ (pattern (field .before .before .before .before)) (field .before .if3 .left) (field .if4 .left) (found .scaled .ensures) (λ e. c .before .if5 .taken (omega arith)))
 
 counted-requires-2 : tie.Need-counted-requires-2
 counted-requires-2 c κs = search needs
@@ -102,7 +102,7 @@ returns-6 c =
     let found = c .before .before in
     let field = found .before in
     c .counted2 .ensures ∙
-    on _ _ _ (pattern (field .before .before .before .before)) (field .before .if3 .left) (field .if4 .left) (found .scaled .ensures) (c .before .if5 .left)
+    on _ _ _ (pattern (field .before .before .before .before)) (field .before .if3 .left) (field .if4 .left) (found .scaled .ensures) (omega (arith, c .before .if5 .left))
 
 pub sixty-fourths-spec : {M : Type 1} → statement M
 sixty-fourths-spec =
