@@ -35,7 +35,7 @@ returns-2 : tie.Need-returns-2
 unfolding gauge
 returns-2 c =
     let tested = c .before .before in (
-      rw (eq-eqb _ _ (sym (tested .before .rate-fault .ensures) ∙ tested .if1 .left), c .gauge .ensures, there tested .used),
+      rw (eq-eqb _ _ (sym (tested .before .rate-fault .ensures) ∙ tested .if1 .left), c .gauge .ensures, ← there tested .used),
       tested .before .before .before .before .pre,
     )
 
