@@ -37,7 +37,7 @@ use Rattle.files.specs.Reading.{_unless_, isIn}
 use Rattle.surveys.specs.SurveyFile.{countOf, recordAt, recordsOf, readSurvey, surveyOf}
 use Rattle.vehicles.specs.VehicleFile.{VEHICLE-VERSIONS, readVehicle, vehicleOf}
 use Rattle.files.specs.declared.Refusal.{Refusal}
-use Rattle.files.proofs.Tests.{first-is, rows-is, in-range, refutes}
+use Rattle.files.proofs.Tests.{first-is, rows-is}
 use Rattle.files.proofs.Faults.{reading-case}
 use Rattle.surveys.proofs.Surveys as surveys
 use Rattle.vehicles.proofs.Vehicles as vehicles

@@ -1,6 +1,6 @@
 -- The call on a gauge's readings answers, or is refused, as its plain words have it.
 -- Assumes nothing.
-use Prim.Native.Nat.{ℕ, _-_, _<_}
+use Prim.Native.Nat.{ℕ, _-_}
 use mathlib.Core.Path.{_≡_, refl, sym, _∙_, subst}
 use mathlib.Core.Bool.{true≢false}
 use mathlib.Core.Logic.{_⊎_, inl, inr, ⊎-elim}
@@ -20,7 +20,7 @@ use Rattle.gauge.specs.declared.Deflection.the-variants.{Within, Over}
 use Rattle.gauge.specs.declared.Readings.{Readings}
 use Rattle.gauge.proofs.Claims.{compared, gauged-elastic, gauged-refused}
 use Rattle.gauge.proofs.Refusals.{passed-or-fault}
-use Rattle.session.specs.Answers.{WithDeflection, RefusedAt, deflectionAnswer}
+use Rattle.session.specs.Answers.{RefusedAt, deflectionAnswer}
 use Rattle.session.specs.Calls.{members, rateFault}
 use Rattle.session.specs.Gauging.{gauge}
 use Rattle.session.specs.declared.Session.{Session}

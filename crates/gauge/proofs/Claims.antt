@@ -1,23 +1,22 @@
 -- What is claimed of a gauge's readings holds.
 -- Assumes nothing.
-use Prim.Native.Nat.{ℕ, _+_, _-_, _≤_}
-use mathlib.Core.Path.{_≡_, refl, sym, ap, _∙_}
+use Prim.Native.Nat.{ℕ, _-_, _≤_}
+use mathlib.Core.Path.{_≡_, refl, sym, _∙_}
 use mathlib.Core.Bool.{Bool, true, false, true≢false}
 use native.Mathlib.Nat.{sub-add-cancel}
 use native.Mathlib.Omega.{arith}
 use lib.Ieee.{Float, binary32, sub}
 use borrow.Author.Tests.{leb-true}
 use Rattle.section.specs.Choose.{choose}
-use Rattle.section.specs.Fraction.{over, _⊕_, _⊑_, _≐_, atMost}
+use Rattle.section.specs.Fraction.{over, _⊕_, _≐_, atMost}
 use Rattle.section.proofs.Order.{≐-sym, ≐-trans, over-sound, ⊕-over, at-most, is-at-most, above, is-above}
-use Rattle.files.specs.declared.Reading.the-variants.{Taken}
 use Rattle.files.proofs.Faults.{refusal}
 use Rattle.member.specs.declared.record.Member.{Member}
-use Rattle.gauge.specs.Value.{valueOf, IsReading}
+use Rattle.gauge.specs.Value.{valueOf}
 use Rattle.gauge.specs.Limit.{limit}
-use Rattle.gauge.specs.Gauge.{readingTests, deflection, deflectionOf, gauged}
+use Rattle.gauge.specs.Gauge.{deflection, deflectionOf, gauged}
 use Rattle.gauge.specs.Fault.{ReadingFault, MayBeGauged}
-use Rattle.gauge.specs.Claims.{Exact, LosesNothing, carried, Compared}
+use Rattle.gauge.specs.Claims.{Exact, LosesNothing, Compared}
 use Rattle.gauge.specs.declared.Deflection.{Deflection}
 use Rattle.gauge.specs.declared.Deflection.the-variants.{Within, Over}
 use Rattle.gauge.specs.declared.Gauged.the-variants.{Elastic}

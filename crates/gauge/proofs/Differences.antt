@@ -1,20 +1,19 @@
 -- The subtraction of two readings loses nothing. In 64ths it is a difference of whole numbers below 2 ^ 15, and an f32 keeps 24 binary digits, so
 -- that rounding leaves it as it is.
 -- Assumes nothing.
-use Prim.Native.Nat.{ℕ, _+_, _-_, _*_, _%_, _^_, _≤_, _<_}
-use mathlib.Core.Path.{_≡_, refl, sym, ap, _∙_, subst}
+use Prim.Native.Nat.{ℕ, _-_, _*_, _%_, _^_, _≤_, _<_}
+use mathlib.Core.Path.{_≡_, sym, _∙_, subst}
 use mathlib.Core.Bool.{true, false, false≢true}
 use native.Mathlib.Nat.{mul-assoc, lt-trans}
 use native.Mathlib.Omega.{arith}
 use lib.Dec.{eqb}
 use lib.IntN.{ℤ}
 use lib.Pow.{pow-lt, shl-lt}
-use lib.Ieee.{Float, nan, inf, fin, up, down, binary32, round, sum, sub}
+use lib.Ieee.{Float, nan, inf, fin, up, down, binary32, round, sub}
 use lib.Ieee.Exact.{HasValue, round-exact}
-use lib.Ieee.Fits.{down-pos}
 use lib.Ieee.Scale.{round-same}
 use borrow.Author.Tests.{le-ltb, lt-leb, eq-eqb}
-use Rattle.section.specs.Fraction.{Fraction, over, whole, _⊖_, _⊑_, _⊏_, _≐_}
+use Rattle.section.specs.Fraction.{Fraction, over, whole, _⊖_, _⊑_, _≐_}
 use Rattle.section.proofs.Order.{⊖-over, ⊖-sound}
 use Rattle.gauge.specs.Value.{valueOf, isClear, isReading, IsReading}
 use Rattle.gauge.proofs.Values.{value-sound, has-value, reading-by, countOf, reading-counted, is-reading}

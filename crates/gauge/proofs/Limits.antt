@@ -11,7 +11,8 @@ use Rattle.section.proofs.Choices.{of-choose}
 use Rattle.section.proofs.Order.{≐-refl, ≐-sym, over-sound, whole-sound, ÷-sound, ⊕-sound, over-times, ÷-over, ⊕-over, at-most-same}
 use Rattle.member.specs.Fields.{KIND, field}
 use Rattle.member.specs.declared.record.Member.{Member}
-use Rattle.gauge.specs.Limit.{spanMm, spanPart, ofSpan, fifthsOf, limit}
+use Rattle.gauge.specs.Limit.{spanMm, spanPart, ofSpan, limit}
+use Rattle.gauge.specs.Whole.{fifthsOf}
 
 module _ (m : Member) where
   abbrev S : ℕ

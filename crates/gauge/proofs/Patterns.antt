@@ -9,7 +9,7 @@ use native.Mathlib.Nat.{mod-eq-of-lt, mul-assoc, mul-pos, mul-le-mul, lt-of-lt-o
 use native.Mathlib.Omega.{arith}
 use lib.Dec.{eqb, leb}
 use lib.Pow.{pow-add, pow-pos, pow-mono, shl-lt}
-use lib.Ieee.{Float, nan, inf, fin, binary32, odd, ofFields, ofBits}
+use lib.Ieee.{nan, inf, binary32, odd, ofFields, ofBits}
 use lib.Ieee.Exact.{odd-sign}
 use borrow.Author.Tests.{le-leb, lt-leb, eq-eqb, ne-eqb, eqb-true, eqb-false, leb-true, leb-false}
 use Rattle.section.specs.Fraction.{over, whole, _·_, _≐_, floor}

@@ -3,20 +3,18 @@
 use Prim.Native.Nat.{ℕ, _+_, _<_}
 use mathlib.Core.Path.{_≡_, refl, sym, _∙_}
 use mathlib.Core.Bool.{Bool, true, false, true≢false}
-use mathlib.Core.List.{map}
 use mathlib.Core.Logic.{_⊎_, inl, inr}
 use native.Mathlib.Omega.{arith}
-use Rattle.section.specs.Fraction.{_⊑_, atMost}
+use Rattle.section.specs.Fraction.{atMost}
 use Rattle.section.proofs.Choices.{decided}
 use Rattle.section.proofs.Order.{at-most, is-at-most, above, is-above}
 use Rattle.files.specs.Reading.{firstFault, orElse, test}
 use Rattle.files.specs.Words.{each}
 use Rattle.files.specs.declared.Reading.{Reading}
-use Rattle.files.specs.declared.Reading.the-variants.{Taken, Refused}
-use Rattle.files.specs.declared.Refusal.{Refusal}
+use Rattle.files.specs.declared.Reading.the-variants.{Taken}
 use Rattle.files.proofs.Faults.{refusal, reading-case, both-taken, test-holds, failing, all-hold, hold-all, first-failing, failing-named}
 use Rattle.gauge.specs.Value.{valueOf, isReading, IsReading}
-use Rattle.gauge.specs.Gauge.{inOrder, faultOf, readingTests}
+use Rattle.gauge.specs.Gauge.{readingTests}
 use Rattle.gauge.specs.Fault.{readingAt, AllReadings, ReadingFault, bad-reading, after-above, MayBeGauged}
 use Rattle.gauge.specs.declared.Readings.{Readings}
 use Rattle.gauge.proofs.Values.{reading-is, is-reading}

@@ -1,18 +1,18 @@
 -- Whether a float is a reading goes by any fraction that is its value, and comes to the plain words.
 -- Assumes nothing.
-use Prim.Native.Nat.{ℕ, _+_, _*_, _/_, _%_, _^_, _≤_, _<_}
+use Prim.Native.Nat.{ℕ, _*_, _/_, _%_, _^_, _≤_, _<_}
 use mathlib.Core.Path.{_≡_, refl, sym, ap, _∙_}
-use mathlib.Core.Bool.{Bool, true, false, not, _&&_, false≢true, true≢false}
+use mathlib.Core.Bool.{true, false, not, _&&_, false≢true, true≢false}
 use native.Mathlib.Nat.{mul-one, mul-mod-left, div-add-mod', lt-of-mul-lt-mul-right}
 use native.Mathlib.Omega.{arith}
 use lib.Dec.{T, eqb, leb}
 use lib.IntN.{ℤ}
-use lib.Ieee.{Float, nan, inf, fin, up, down, ne, isNan}
+use lib.Ieee.{Float, nan, inf, fin, ne, isNan}
 use lib.Ieee.Compare.{nan-differs}
 use lib.Ieee.Fits.{down-pos}
 use lib.Ieee.Exact.{HasValue}
-use borrow.Author.Tests.{le-leb, lt-leb, leb-true, leb-false, eq-eqb, eqb-true, not-true}
-use Rattle.section.specs.Fraction.{Fraction, Sound, over, whole, _·_, _⊑_, _⊏_, _≐_, atMost, floor}
+use borrow.Author.Tests.{le-leb, leb-true, eq-eqb, eqb-true, not-true}
+use Rattle.section.specs.Fraction.{Fraction, Sound, over, whole, _·_, _⊏_, _≐_, atMost, floor}
 use Rattle.section.proofs.Choices.{same-test}
 use Rattle.section.proofs.Order.{≐-refl, ≐-sym, ≐-trans, over-sound, whole-sound, ·-sound, times-over, above, is-above, at-most-same}
 use Rattle.section.proofs.Rounding.{floor-same}

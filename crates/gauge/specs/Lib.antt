@@ -2,5 +2,5 @@ pub mod Value
 pub mod Limit
 pub mod Gauge
 pub mod Fault
-pub mod Counted
+pub mod Whole
 pub mod Claims

@@ -20,7 +20,3 @@ ofSpan m = whole (spanMm m) ÷ whole (spanPart (field m KIND))
 
 unfoldable pub limit : Member → (class : ℕ) → Fraction
 limit m class = choose (eqb class 1) (ofSpan m ⊕ ofSpan m ÷ whole 5) (ofSpan m)
-
--- a fifth more is 6 fifths
-abbrev pub fifthsOf : (class : ℕ) → ℕ
-fifthsOf class = choose (eqb class 1) 6 5

@@ -61,7 +61,7 @@ fn readings_answer(readings: Readings) -> Reading
     or_else(first, or_else(second, or_else(third, order)))
 }
 
-// The machine's difference of two readings loses nothing, so it is a reading too.
+// The elastic deflection against the limit. The machine's difference of two readings loses nothing, so it has a number of 64ths too.
 fn compared(m: Member, class: u8, readings: Readings) -> Deflection
     requires { ⌜ AllowedMember m × MayBeGauged readings ⌝ }
     ensures { λ r. ⌜ r ≡ deflectionOf m class readings ⌝ }

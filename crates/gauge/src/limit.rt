@@ -1,4 +1,4 @@
-// The limit of a deflection.
+// The limit of a deflection. Document 02, request 11: span/180 for kinds 1, 2 and 7, span/300 for the rest, a fifth more for class 1.
 use member::record::KIND;
 use member::record::Member;
 use section::Mm;
@@ -6,7 +6,8 @@ ghost use mathlib.Core.Path.{_≡_};
 ghost use Prim.Native.Nat.{_*_, _≤_, _<_};
 ghost use Rattle.section.specs.Fraction.{over, atMost};
 ghost use Rattle.member.specs.Fields.{SPAN, field};
-ghost use Rattle.gauge.specs.Limit.{spanMm, spanPart, fifthsOf, limit};
+ghost use Rattle.gauge.specs.Limit.{spanMm, spanPart, limit};
+ghost use Rattle.gauge.specs.Whole.{fifthsOf};
 
 // 10 mm to the centimetre.
 fn span_in_mm(m: Member) -> Mm
@@ -16,7 +17,7 @@ fn span_in_mm(m: Member) -> Mm
     Mm(10 * m.span().0)
 }
 
-// What part of the span the limit is: of beams another than of chords and joints.
+// What the span is divided by: of beams 180, of chords and joints 300.
 fn span_part(kind: u64) -> u64
     ensures { λ r. ⌜ r ≡ spanPart kind ⌝ }
 {
@@ -34,7 +35,7 @@ fn fifths(class: u8) -> u64
     if class == 1 { 6 } else { 5 }
 }
 
-// A deflection of so many 64ths of a millimetre is at most the limit. It is compared by multiplying out.
+// Whether so many 64ths of a millimetre are at most the limit, by multiplying out.
 pub fn is_within(count: u64, m: Member, class: u8) -> bool
     requires { ⌜ (count < 32768) × (field m SPAN ≤ 10000) ⌝ }
     ensures { λ r. ⌜ r ≡ atMost (over count 64) (limit m class) ⌝ }

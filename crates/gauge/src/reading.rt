@@ -1,9 +1,9 @@
 // A reading by its bits: a sign, an exponent of eight bits and a mantissa of 23, behind a leading 1 that is not written.
 ghost use mathlib.Core.Path.{_≡_};
 ghost use Prim.Native.Nat.{_-_, _*_, _^_, _≤_, _<_};
-ghost use Rattle.gauge.specs.Counted.{counted, noReading, countedOf};
+ghost use Rattle.gauge.specs.Whole.{counted, noReading, countedOf};
 
-// What the exponent's first bit counts for, behind the mantissa's bits.
+// 2 to the 23: the exponent stands above the mantissa's bits, and so does the leading 1 in its place.
 const MANTISSA: u32 = 8388608;
 
 // The exponents of 1/64 and of 256: a reading that is not 0 lies from the first to below twice the second. A set sign makes it greater.
@@ -11,7 +11,7 @@ const LEAST_EXPONENT: u32 = 121;
 
 const GREATEST_EXPONENT: u32 = 135;
 
-// The parts of a 64th in which a number with the least exponent has its mantissa.
+// A number with the least exponent is its mantissa, with the leading 1, in so many parts of a 64th.
 const PARTS: u64 = 8388608;
 
 // How many 64ths of a millimetre a reading has; 0 where it is none.
@@ -41,7 +41,7 @@ fn wide(x: u32) -> u64
     x as u64
 }
 
-// The parts of a number whose mantissa, with its leading 1, and exponent are these.
+// A number in parts of a 64th, by its mantissa with the leading 1 and its exponent.
 fn scaled(mantissa: u32, exponent: u32) -> u64
     requires { ⌜ (mantissa < 2 ^ 24) × (121 ≤ exponent) × (exponent ≤ 135) ⌝ }
     ensures { λ r. ⌜ r ≡ mantissa * 2 ^ (exponent - 121) ⌝ }
@@ -49,6 +49,7 @@ fn scaled(mantissa: u32, exponent: u32) -> u64
     wide(mantissa) << (exponent - LEAST_EXPONENT)
 }
 
+// A NaN, which alone differs from itself, has no bits to look at.
 pub fn sixty_fourths(x: f32) -> SixtyFourths
     ensures { λ r. ⌜ r ≡ countedOf x ⌝ }
 {

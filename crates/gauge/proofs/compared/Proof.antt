@@ -1,14 +1,13 @@
 -- `compared` meets its contract: the difference of two readings is a reading, so its number of 64ths stands for its value.
 -- Assumes nothing.
-use Prim.Native.Nat.{ℕ, _<_}
-use mathlib.Core.Path.{_≡_, sym, _∙_, ap}
-use mathlib.Core.Bool.{Bool, true}
+use mathlib.Core.Path.{_≡_, sym, _∙_}
+use mathlib.Core.Bool.{true}
 use native.Mathlib.Omega.{arith}
 use borrow.Author.Needs.{needs}
-use Rattle.section.specs.Fraction.{over, atMost}
+use Rattle.section.specs.Fraction.{atMost}
 use Rattle.member.specs.Fields.{SPAN}
 use Rattle.member.proofs.Ranges.{number-cap}
-use Rattle.gauge.specs.Counted.{countedOf}
+use Rattle.gauge.specs.Whole.{countedOf}
 use Rattle.gauge.specs.Fault.{MayBeGauged}
 use Rattle.gauge.specs.Gauge.{deflection, deflectionOf}
 use Rattle.gauge.specs.Limit.{limit}

@@ -1,9 +1,8 @@
 -- `gauge` meets its contract: a refusal answers itself; else no test fails.
 -- Assumes nothing.
-use mathlib.Core.Path.{_≡_, sym, _∙_}
+use mathlib.Core.Path.{sym, _∙_}
 use borrow.Author.Needs.{needs}
-use Rattle.files.specs.declared.Reading.the-variants.{Taken}
-use Rattle.gauge.specs.Gauge.{readingTests, gauged}
+use Rattle.gauge.specs.Gauge.{gauged}
 use Rattle.gauge.specs.Fault.{MayBeGauged}
 use Rattle.gauge.proofs.Refusals.{taken-good}
 use Rattle.gauge.proofs.gauge.Statement.{statement}

@@ -1,14 +1,13 @@
 -- `readings_answer` meets its contract: the readings are tested one after the other, and where none is bad the order of two of them is that of
 -- their numbers of 64ths.
 -- Assumes nothing.
-use mathlib.Core.Path.{_≡_, refl, sym, ap, _∙_}
-use mathlib.Core.Bool.{true, false}
+use mathlib.Core.Path.{_≡_, ap}
 use mathlib.Core.List.{[], _∷_}
 use mathlib.Core.Logic.{inl, inr}
 use lib.Dec.{leb}
 use borrow.Author.Needs.{needs}
 use Rattle.files.specs.Reading.{_unless_, firstFault, orElse, test}
-use Rattle.gauge.specs.Counted.{countedOf}
+use Rattle.gauge.specs.Whole.{countedOf}
 use Rattle.gauge.specs.Gauge.{readingTests}
 use Rattle.gauge.specs.Value.{isReading}
 use Rattle.gauge.specs.declared.Readings.{Readings}

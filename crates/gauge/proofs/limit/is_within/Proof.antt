@@ -3,7 +3,6 @@
 use Prim.Native.Nat.{_≤_}
 use native.Mathlib.Omega.{arith}
 use borrow.Author.Needs.{needs}
-use Rattle.section.specs.Fraction.{over}
 use Rattle.section.proofs.Products.{product-fits, product-cap}
 use Rattle.gauge.proofs.Limits.{within-over, part-cap, fifths-cap}
 use Rattle.gauge.proofs.limit.is_within.Statement.{statement}

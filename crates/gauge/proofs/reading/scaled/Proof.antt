@@ -1,7 +1,6 @@
 -- `scaled` meets its contract: a number of 24 binary digits that is shifted by at most 14 loses none of 64.
 -- Assumes nothing.
-use Prim.Native.Nat.{_*_, _-_, _^_}
-use mathlib.Core.Path.{_∙_, ap}
+use Prim.Native.Nat.{_-_}
 use native.Mathlib.Omega.{arith}
 use lib.Pow.{shl-exact}
 use borrow.Author.Needs.{needs}

@@ -12,7 +12,7 @@ use borrow.Author.Needs.{needs}
 use borrow.Author.Tests.{eq-eqb, ne-eqb}
 use Rattle.section.specs.Fraction.{over, whole, _·_, floor}
 use Rattle.gauge.specs.Value.{valueOf, isReading}
-use Rattle.gauge.specs.Counted.{counted, noReading, countedOf}
+use Rattle.gauge.specs.Whole.{counted, noReading, countedOf}
 use Rattle.gauge.proofs.Values.{a-number}
 use Rattle.gauge.proofs.Patterns.{below-readings, above-readings, partsOf, in-parts, parts-counted}
 use Rattle.gauge.proofs.reading.sixty_fourths.Statement.{statement}

@@ -1,6 +1,7 @@
--- What the code keeps of a reading: how many 64ths it has. No part of the demands.
+-- What the code multiplies out: a reading as a whole number of 64ths of a millimetre, and the fifths of a limit. No part of the demands.
 use Prim.Native.Nat.{ℕ}
 use mathlib.Core.Bool.{true, false}
+use lib.Dec.{eqb}
 use lib.Ieee.{Float}
 use Rattle.section.specs.Choose.{choose}
 use Rattle.section.specs.Fraction.{whole, _·_, floor}
@@ -15,3 +16,7 @@ noReading = record { good = false; count = 0 }
 
 abbrev pub countedOf : Float → SixtyFourths
 countedOf x = choose (isReading x) (counted (floor (whole 64 · valueOf x))) noReading
+
+-- a fifth more is 6 fifths
+abbrev pub fifthsOf : (class : ℕ) → ℕ
+fifthsOf class = choose (eqb class 1) 6 5
