@@ -171,7 +171,7 @@ impl Refusal {
     }
 }
 
-/// Why a gauge's readings under a test load were not taken, which no call of this crate does.
+/// Why a gauge's readings under a test load were refused. No call of this crate takes readings yet.
 #[derive(Clone, Copy, PartialEq, Eq)]
 pub struct GaugeRefusal {
     /// The number: 11 no survey, 12 no vehicle, 13 no such member, 20 the readings.
