@@ -24,13 +24,14 @@ use Rattle.session.specs.Answers.{RefusedAt, deflectionAnswer}
 use Rattle.session.specs.Calls.{members, rateFault}
 use Rattle.session.specs.Gauging.{gauge}
 use Rattle.session.specs.declared.Session.{Session}
+use Rattle.session.proofs.Loads.{no-refusal}
 use Rattle.session.proofs.State.{rate-ready, no-survey-fault, no-vehicle-fault, no-place-fault}
 use Rattle.demands.specs.GaugeCall.{Measures, Placed, GaugeFault, no-survey, no-vehicle, no-place, wrong-readings, GaugeAnswered, GaugeTaken}
 
 -- a deflection is no refusal, and the answer tells which it is
 no-deflection : (d : Deflection) (n p : ℕ) → deflectionAnswer d ≡ RefusedAt n p → ⊥
-no-deflection (Within x) n p e = let z : _≡_ {A = ℕ} 0 1 = cc in omega arith
-no-deflection (Over x) n p e = let z : _≡_ {A = ℕ} 0 1 = cc in omega arith
+no-deflection (Within x) n p e = no-refusal _ n p refl e
+no-deflection (Over x) n p e = no-refusal _ n p refl e
 
 same-deflection : (d d' : Deflection) → deflectionAnswer d ≡ deflectionAnswer d' → d ≡ d'
 same-deflection (Within x) (Within y) e = cc
@@ -42,7 +43,7 @@ module _ (s : Session) (place : ℕ) (r : Readings) where
   abbrev member : Member
   member = memberAt (members s) (place - 1)
 
-  ready : Placed s place r → rateFault (s .survey .count) (s .vehicle .axles) place ≡ 0
+  ready : Placed s place → rateFault (s .survey .count) (s .vehicle .axles) place ≡ 0
   ready p = rate-ready (s .survey .count) (s .vehicle .axles) place (p .survey) (p .vehicle) (p .there)
 
   -- a fault in plain words is the refusal
@@ -54,12 +55,12 @@ module _ (s : Session) (place : ℕ) (r : Readings) where
   fault-named n p (wrong-readings placed m q f) = rw (ready placed, gauged-refused member (s .vehicle .class) r m q f)
 
   -- where no test fails
-  elastic : Placed s place r → MayBeGauged r → Measures s place r (deflectionOf member (s .vehicle .class) r)
+  elastic : Placed s place → MayBeGauged r → Measures s place r (deflectionOf member (s .vehicle .class) r)
   unfolding gauge
   elastic p g = rw (ready p, gauged-elastic member (s .vehicle .class) r g)
 
   abbrev Outcome : Type 0
-  Outcome = (Placed s place r × MayBeGauged r) ⊎ ((n p : ℕ) × GaugeFault s place r n p)
+  Outcome = (Placed s place × MayBeGauged r) ⊎ ((n p : ℕ) × GaugeFault s place r n p)
 
   -- every call passes all tests or has a fault
   passes-or-fault : Outcome
@@ -75,7 +76,7 @@ module _ (s : Session) (place : ℕ) (r : Readings) where
         ]
       ]
     where
-      tested : Placed s place r → Outcome
+      tested : Placed s place → Outcome
       tested p = ⊎-elim (λ g. inl (p, g)) (λ (n, q, f). inr (n, q, wrong-readings p n q f)) (passed-or-fault r)
 
   pub gauge-answered : GaugeAnswered s place r
@@ -88,7 +89,7 @@ module _ (s : Session) (place : ℕ) (r : Readings) where
       }
 
   -- a deflection is given where no test fails
-  given : (d : Deflection) → Measures s place r d → Placed s place r × MayBeGauged r
+  given : (d : Deflection) → Measures s place r d → Placed s place × MayBeGauged r
   given d e = ⊎-elim (λ passed. passed) (λ (n, q, f). absurd (no-deflection d n q (sym e ∙ fault-named n q f))) passes-or-fault
 
   pub gauge-taken : GaugeTaken s place r

@@ -14,23 +14,23 @@ use Rattle.session.specs.Calls.{members}
 use Rattle.session.specs.Gauging.{gauge}
 use Rattle.session.specs.declared.Session.{Session}
 
+-- a survey and a vehicle are loaded, and the place is one of the survey's
+pub record Placed (s : Session) (place : ℕ) : Type 0 where
+  pub survey : 0 < s .survey .count
+  pub vehicle : 0 < s .vehicle .axles
+  pub there : In (1 ‥ s .survey .count) place
+
 module _ (s : Session) (place : ℕ) (r : Readings) where
   -- the call gives this deflection
   abbrev pub Measures : Deflection → Type 0
   Measures d = gauge s place r .answer ≡ deflectionAnswer d
-
-  -- a survey and a vehicle are loaded, and the place is one of the survey's
-  pub record Placed : Type 0 where
-    pub survey : 0 < s .survey .count
-    pub vehicle : 0 < s .vehicle .axles
-    pub there : In (1 ‥ s .survey .count) place
 
   -- "20: a reading not of that sort, or after above loaded; .. after 11, 12 and 13": that test fails, and those before it hold
   pub data GaugeFault : (number at : ℕ) → Type 0 where
     no-survey : s .survey .count ≡ 0 → GaugeFault 11 0
     no-vehicle : 0 < s .survey .count → s .vehicle .axles ≡ 0 → GaugeFault 12 0
     no-place : 0 < s .survey .count → 0 < s .vehicle .axles → ¬ (In (1 ‥ s .survey .count) place) → GaugeFault 13 0
-    wrong-readings : Placed → (n p : ℕ) → ReadingFault r n p → GaugeFault n p
+    wrong-readings : Placed s place → (n p : ℕ) → ReadingFault r n p → GaugeFault n p
 
   -- Of demand 1: the call answers, or is refused by a number of the list, and the session stays.
   pub record GaugeAnswered : Type 0 where
@@ -41,5 +41,5 @@ module _ (s : Session) (place : ℕ) (r : Readings) where
 
   -- Of demand 2: a deflection is given exactly when no test fails, and is compared with the limit of the member at the place.
   pub record GaugeTaken : Type 0 where
-    pub taken : ((d : Deflection) × Measures d) ↔ (Placed × MayBeGauged r)
+    pub taken : ((d : Deflection) × Measures d) ↔ (Placed s place × MayBeGauged r)
     pub compared : (d : Deflection) → Measures d → Compared (memberAt (members s) (place - 1)) (s .vehicle .class) r d

@@ -10,28 +10,27 @@ use borrow.Author.Tests.{leb-true}
 use Rattle.section.specs.Choose.{choose}
 use Rattle.section.specs.Fraction.{over, _⊕_, _≐_, atMost}
 use Rattle.section.proofs.Order.{≐-sym, ≐-trans, over-sound, ⊕-over, at-most, is-at-most, above, is-above}
-use Rattle.files.proofs.Faults.{refusal}
 use Rattle.member.specs.declared.record.Member.{Member}
+use Rattle.gauge.specs.Whole.{countOf}
 use Rattle.gauge.specs.Value.{valueOf}
 use Rattle.gauge.specs.Limit.{limit}
 use Rattle.gauge.specs.Gauge.{deflection, deflectionOf, gauged}
 use Rattle.gauge.specs.Fault.{ReadingFault, MayBeGauged}
 use Rattle.gauge.specs.Claims.{Exact, LosesNothing, Compared}
-use Rattle.gauge.specs.declared.Deflection.{Deflection}
 use Rattle.gauge.specs.declared.Deflection.the-variants.{Within, Over}
 use Rattle.gauge.specs.declared.Gauged.the-variants.{Elastic}
 use Rattle.gauge.specs.declared.Gauged.the-variants.{Refused as NotGauged}
 use Rattle.gauge.specs.declared.Readings.{Readings}
 use Rattle.gauge.proofs.Differences.{deflected, deflection-reading}
 use Rattle.gauge.proofs.Refusals.{good-taken, fault-refused}
-use Rattle.gauge.proofs.Values.{countOf, has-value, reading-counted, counts-in-order, reading-is, is-reading}
+use Rattle.gauge.proofs.Values.{reading-counted, counts-in-order, reading-is, is-reading}
 
 pub loses-nothing : LosesNothing
 loses-nothing x y rx ry order =
     let cx = reading-counted x (is-reading x rx) in
     let cy = reading-counted y (is-reading y ry) in
     let fewer : countOf y ≤ countOf x = leb-true _ _ (counts-in-order y x cy cx ∙ is-at-most order) in
-    let value = has-value (sub binary32 x y) (countOf x - countOf y) 64 (deflected x y rx ry order) .1 in
+    let value = deflected x y rx ry order .1 in
     let made : valueOf (sub binary32 x y) ⊕ valueOf y ≐ over (countOf x) 64 = rw (sub-add-cancel fewer) at (⊕-over (countOf x - countOf y) (countOf y) 64 value (cy .value)) in
     record { reading = reading-is _ (deflection-reading x y rx ry order); exact = ≐-trans (over-sound (countOf x) 64 (omega arith)) made (≐-sym (cx .value)) }
 

@@ -13,10 +13,11 @@ use lib.Ieee.{Float, nan, inf, fin, up, down, binary32, round, sub}
 use lib.Ieee.Exact.{HasValue, round-exact}
 use lib.Ieee.Scale.{round-same}
 use borrow.Author.Tests.{le-ltb, lt-leb, eq-eqb}
-use Rattle.section.specs.Fraction.{Fraction, over, whole, _⊖_, _⊑_, _≐_}
+use Rattle.section.specs.Fraction.{Fraction, over, _⊖_, _⊑_, _≐_}
 use Rattle.section.proofs.Order.{⊖-over, ⊖-sound}
 use Rattle.gauge.specs.Value.{valueOf, isClear, isReading, IsReading}
-use Rattle.gauge.proofs.Values.{value-sound, has-value, reading-by, countOf, reading-counted, is-reading}
+use Rattle.gauge.proofs.Values.{value-sound, has-value, reading-by, reading-counted, is-reading}
+use Rattle.gauge.specs.Whole.{countOf}
 
 -- numbers with a clear sign bit, the first at least the second: their exact difference is rounded once
 opened : (m : ℕ) (e : ℤ) (n : ℕ) (d : ℤ) → n * up d * down e ≤ m * up e * down d →
@@ -46,7 +47,7 @@ unfolding over
 multiplied n e = e .out
 
 -- two readings of p and of q 64ths
-pub difference : (x y : Float) (p q : ℕ) → isClear x ≡ true → isClear y ≡ true → valueOf x ≐ over p 64 → valueOf y ≐ over q 64 →
+difference : (x y : Float) (p q : ℕ) → isClear x ≡ true → isClear y ≡ true → valueOf x ≐ over p 64 → valueOf y ≐ over q 64 →
     valueOf y ⊑ valueOf x →
     p < 2 ^ 15 →
     HasValue (sub binary32 x y) false (p - q) 64
@@ -59,17 +60,19 @@ difference x y p q cx cy vx vy order few =
     (multiplied (p - q) exact) in
     subst (λ (z : Float). HasValue z false (p - q) 64) (sym rounded) (kept (p - q) (omega arith))
 
--- two readings of which the first is no less
-pub deflected : (x y : Float) → IsReading x → IsReading y → valueOf y ⊑ valueOf x → HasValue (sub binary32 x y) false (countOf x - countOf y) 64
+-- two readings of which the first is no less: the difference has its sign bit clear, and as many 64ths as the numbers of 64ths differ by
+pub deflected : (x y : Float) → IsReading x → IsReading y → valueOf y ⊑ valueOf x →
+    (isClear (sub binary32 x y) ≡ true) × (valueOf (sub binary32 x y) ≐ over (countOf x - countOf y) 64)
 deflected x y rx ry order =
     let cx = reading-counted x (is-reading x rx) in
     let cy = reading-counted y (is-reading y ry) in
-    difference x y (countOf x) (countOf y) (cx .clear) (cy .clear) (cx .value) (cy .value) order (cx .few)
+    has-value (sub binary32 x y) (countOf x - countOf y) 64
+    (difference x y (countOf x) (countOf y) (cx .clear) (cy .clear) (cx .value) (cy .value) order (cx .few))
 
 -- so the difference is a reading
 pub deflection-reading : (x y : Float) → IsReading x → IsReading y → valueOf y ⊑ valueOf x → isReading (sub binary32 x y) ≡ true
 deflection-reading x y rx ry order =
-    let value = has-value (sub binary32 x y) (countOf x - countOf y) 64 (deflected x y rx ry order) in
+    let value = deflected x y rx ry order in
     reading-by (sub binary32 x y) (countOf x - countOf y) 64 (omega arith) (value .0) (value .1) ∙
     rw (whole-count (countOf x - countOf y), lt-leb (512 * 64) (countOf x - countOf y) (omega (arith, reading-counted x (is-reading x rx) .few)))
   where

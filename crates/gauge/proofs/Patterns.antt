@@ -12,9 +12,10 @@ use lib.Pow.{pow-add, pow-pos, pow-mono, shl-lt}
 use lib.Ieee.{nan, inf, binary32, odd, ofFields, ofBits}
 use lib.Ieee.Exact.{odd-sign}
 use borrow.Author.Tests.{le-leb, lt-leb, eq-eqb, ne-eqb, eqb-true, eqb-false, leb-true, leb-false}
-use Rattle.section.specs.Fraction.{over, whole, _·_, _≐_, floor}
+use Rattle.section.specs.Fraction.{over, _≐_}
 use Rattle.section.proofs.Choices.{decided, same-test}
 use Rattle.section.proofs.Order.{≐-refl, ≐-sym, ≐-trans, over-sound, over-times}
+use Rattle.gauge.specs.Whole.{countOf}
 use Rattle.gauge.specs.Value.{valueOf, isClear, isReading}
 use Rattle.gauge.proofs.Values.{has-value, reading-by, counted-by}
 
@@ -160,7 +161,7 @@ module _ (b : ℕ) (low : 121 ≤ b / 8388608) (high : b / 8388608 ≤ 135) wher
       reading-by (ofBits binary32 b) (partsOf b) (2 ^ 29) (pow-pos 29) clear value ∙
       rw (lt-leb (512 * 2 ^ 29) (partsOf b) few) (and-true (eqb (64 * partsOf b % 536870912) 0) ∙ whole-parts (partsOf b))
 
-  pub parts-counted : floor (whole 64 · valueOf (ofBits binary32 b)) ≡ partsOf b / 8388608
+  pub parts-counted : countOf (ofBits binary32 b) ≡ partsOf b / 8388608
   parts-counted = counted-by (ofBits binary32 b) (partsOf b) (2 ^ 29) (pow-pos 29) clear value ∙ same (partsOf b)
     where
       same : (p : ℕ) → 64 * p / 536870912 ≡ p / 8388608

@@ -17,6 +17,7 @@ use Rattle.section.proofs.Choices.{same-test}
 use Rattle.section.proofs.Order.{≐-refl, ≐-sym, ≐-trans, over-sound, whole-sound, ·-sound, times-over, above, is-above, at-most-same}
 use Rattle.section.proofs.Rounding.{floor-same}
 use Rattle.files.proofs.Tests.{both}
+use Rattle.gauge.specs.Whole.{countOf}
 use Rattle.gauge.specs.Value.{valueOf, isClear, isWhole, isReading, IsReading}
 
 -- what equals itself is no NaN
@@ -73,7 +74,7 @@ module _ (x : Float) (a c : ℕ) (above-0 : 0 < c) (clear : isClear x ≡ true) 
       at-most-same (whole-sound 512) (whole-sound 512) (value-sound x) (over-sound a c above-0) ≐-refl value in
       rw (clear, first, second, mul-one a)
 
-  pub counted-by : floor (whole 64 · valueOf x) ≡ 64 * a / c
+  pub counted-by : countOf x ≡ 64 * a / c
   unfolding floor over
   counted-by = floor-same sound (over-sound (64 * a) c above-0) sixty-fourths
 
@@ -93,10 +94,6 @@ passed x e =
 all-passed : (x : Float) → Passed x → isReading x ≡ true
 unfolding isReading
 all-passed x p = rw (p .clear, p .multiple, p .below)
-
--- how many 64ths a reading has
-abbrev pub countOf : Float → ℕ
-countOf x = floor (whole 64 · valueOf x)
 
 sixty-fourth : (a : Fraction) (n : ℕ) → whole 64 · a ≐ whole n → a ≐ over n 64
 unfolding whole over _·_

@@ -12,11 +12,11 @@ use Rattle.member.specs.declared.record.Member.{Member}
 abbrev pub spanMm : Member → ℕ
 spanMm m = 10 * field m SPAN
 
-abbrev pub spanPart : (kind : ℕ) → ℕ
-spanPart kind = choose (eqb kind 1 || eqb kind 2 || eqb kind 7) 180 300
+abbrev pub spanDivisor : (kind : ℕ) → ℕ
+spanDivisor kind = choose (eqb kind 1 || eqb kind 2 || eqb kind 7) 180 300
 
 abbrev pub ofSpan : Member → Fraction
-ofSpan m = whole (spanMm m) ÷ whole (spanPart (field m KIND))
+ofSpan m = whole (spanMm m) ÷ whole (spanDivisor (field m KIND))
 
 unfoldable pub limit : Member → (class : ℕ) → Fraction
 limit m class = choose (eqb class 1) (ofSpan m ⊕ ofSpan m ÷ whole 5) (ofSpan m)

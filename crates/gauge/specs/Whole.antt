@@ -8,6 +8,10 @@ use Rattle.section.specs.Fraction.{whole, _·_, floor}
 use Rattle.gauge.specs.Value.{valueOf, isReading}
 use Rattle.gauge.specs.declared.reading.SixtyFourths.{SixtyFourths}
 
+-- how many 64ths a reading has
+abbrev pub countOf : Float → ℕ
+countOf x = floor (whole 64 · valueOf x)
+
 abbrev pub counted : ℕ → SixtyFourths
 counted n = record { good = true; count = n }
 
@@ -15,7 +19,7 @@ abbrev pub noReading : SixtyFourths
 noReading = record { good = false; count = 0 }
 
 abbrev pub countedOf : Float → SixtyFourths
-countedOf x = choose (isReading x) (counted (floor (whole 64 · valueOf x))) noReading
+countedOf x = choose (isReading x) (counted (countOf x)) noReading
 
 -- a fifth more is 6 fifths
 abbrev pub fifthsOf : (class : ℕ) → ℕ

@@ -17,14 +17,14 @@ ghost use Rattle.files.specs.Reading.{firstFault, _unless_};
 ghost use Rattle.gauge.specs.Gauge.{readingTests, deflectionOf, gauged};
 ghost use Rattle.gauge.specs.Fault.{MayBeGauged};
 
-// The readings before the load stood on the bridge, under it, and after it left.
+// The readings in millimetres before the load stood on the bridge, under it, and after it left.
 pub struct Readings {
     pub empty: f32,
     pub loaded: f32,
     pub after: f32,
 }
 
-// The elastic deflection, within the limit or over it.
+// The elastic deflection in millimetres, within the limit or over it.
 pub enum Deflection {
     Within(f32),
     Over(f32),
@@ -36,8 +36,8 @@ pub enum Gauged {
     Refused(Refusal),
 }
 
-// 20 at the place of a reading that is none.
-fn reading_test(good: bool, place: u64) -> Reading
+// 20 at the place of a reading that is not good. (`files::Reading` is the answer of tests, taken or refused.)
+fn fault_at(good: bool, place: u64) -> Reading
     ensures { λ r. ⌜ r ≡ firstFault place ((20 unless good) ∷ []) ⌝ }
 {
     if good {
@@ -54,9 +54,9 @@ fn readings_answer(readings: Readings) -> Reading
     let empty = sixty_fourths(readings.empty);
     let loaded = sixty_fourths(readings.loaded);
     let after = sixty_fourths(readings.after);
-    let first = reading_test(empty.good, 1);
-    let second = reading_test(loaded.good, 2);
-    let third = reading_test(after.good, 3);
+    let first = fault_at(empty.good, 1);
+    let second = fault_at(loaded.good, 2);
+    let third = fault_at(after.good, 3);
     let order = test(20, after.count <= loaded.count);
     or_else(first, or_else(second, or_else(third, order)))
 }

@@ -6,10 +6,10 @@ ghost use mathlib.Core.Path.{_≡_};
 ghost use Prim.Native.Nat.{_*_, _≤_, _<_};
 ghost use Rattle.section.specs.Fraction.{over, atMost};
 ghost use Rattle.member.specs.Fields.{SPAN, field};
-ghost use Rattle.gauge.specs.Limit.{spanMm, spanPart, limit};
+ghost use Rattle.gauge.specs.Limit.{spanMm, spanDivisor, limit};
 ghost use Rattle.gauge.specs.Whole.{fifthsOf};
 
-// 10 mm to the centimetre.
+// 10 mm to the centimetre. No number of an allowed record is above 10,000.
 fn span_in_mm(m: Member) -> Mm
     requires { ⌜ field m SPAN ≤ 10000 ⌝ }
     ensures { λ r. ⌜ r .0 ≡ spanMm m ⌝ }
@@ -18,8 +18,8 @@ fn span_in_mm(m: Member) -> Mm
 }
 
 // What the span is divided by: of beams 180, of chords and joints 300.
-fn span_part(kind: u64) -> u64
-    ensures { λ r. ⌜ r ≡ spanPart kind ⌝ }
+fn span_divisor(kind: u64) -> u64
+    ensures { λ r. ⌜ r ≡ spanDivisor kind ⌝ }
 {
     let stringer = kind == 1;
     let cross_beam = kind == 2;
@@ -40,7 +40,7 @@ pub fn is_within(count: u64, m: Member, class: u8) -> bool
     requires { ⌜ (count < 32768) × (field m SPAN ≤ 10000) ⌝ }
     ensures { λ r. ⌜ r ≡ atMost (over count 64) (limit m class) ⌝ }
 {
-    let part = span_part(m.number(KIND));
+    let divisor = span_divisor(m.number(KIND));
     let span = span_in_mm(m);
-    count * (part * 5) <= span.0 * fifths(class) * 64
+    count * (divisor * 5) <= span.0 * fifths(class) * 64
 }

@@ -9,7 +9,7 @@ const INFINITY: u32 = 2139095040;
 
 const SIGN: u32 = 2147483648;
 
-// The float of a pattern. The call knows one NaN only, so any will do.
+// The float of a pattern. Of a NaN's pattern none can be made, so a NaN is worked out; the call knows only one.
 fn float_of(bits: u32) -> f32 {
     if INFINITY < bits % SIGN {
         0.0 / 0.0

@@ -145,7 +145,11 @@ fn run_convert(bytes: &[u8]) {
     }
 }
 
-// The bits of a float: four bytes, low byte first.
+// The bits of a float, four bytes, low byte first; and what a gauge's step has, a place and three readings.
+const BITS: usize = 2 * NUMBER;
+
+const GAUGE: usize = NUMBER + 3 * BITS;
+
 fn bits_at(bytes: &[u8], at: usize) -> u32
     requires { ⌜ at + 4 ≤ length (now bytes) ⌝ }
 {
@@ -159,18 +163,15 @@ fn run_gauge(session: Session, bytes: &[u8]) -> Session
     requires { ⌜ Valid session ⌝ }
     ensures { λ r. ⌜ Valid r ⌝ }
 {
-    if bytes.len() < 14 {
+    if bytes.len() < GAUGE {
         print::line(bytes);
         return session;
     }
     let place = number_at(bytes, 0) as u64;
-    gauging::gauge(
-        session,
-        place,
-        bits_at(bytes, 2),
-        bits_at(bytes, 6),
-        bits_at(bytes, 10),
-    )
+    let empty = bits_at(bytes, NUMBER);
+    let loaded = bits_at(bytes, NUMBER + BITS);
+    let after = bits_at(bytes, NUMBER + 2 * BITS);
+    gauging::gauge(session, place, empty, loaded, after)
 }
 
 fn run_step(session: Session, step: Step, bytes: &[u8]) -> Session

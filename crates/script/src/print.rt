@@ -4,6 +4,7 @@ use between::BetweenJudged;
 use files::Reading;
 use files::Refusal;
 use files::output::Written;
+use files::words::widest;
 use gauge::Deflection;
 use gauge::Gauged;
 use libc::STDOUT_FILENO;
@@ -133,16 +134,12 @@ pub fn between(answer: BetweenJudged) {
     }
 }
 
-fn wide(x: u32) -> u64 {
-    x as u64
-}
-
 // The bits of a float; a NaN has none of its own.
 fn bits(x: f32) {
     if x != x {
         text(b" NaN");
     } else {
-        number(wide(f32::to_bits(x)));
+        number(widest(f32::to_bits(x)));
     }
 }
 

@@ -14,7 +14,7 @@ pub struct Kgf(pub u64);
 
 pub struct KgfPerM(pub u64);
 
-// A dowel's diameter is given in millimetres.
+// Millimetres: a dowel's diameter, and the span that a deflection is held against.
 pub struct Mm(pub u64);
 
 // A force that is not rounded to whole kgf: hundredths of a kgf.

@@ -34,7 +34,7 @@ pub record Ready (members axles : ℕ) : Type 0 where
   pub survey : 0 < members
   pub vehicle : 0 < axles
 
-pub state-clear : (members axles : ℕ) → stateFault members axles ≡ 0 → Ready members axles
+state-clear : (members axles : ℕ) → stateFault members axles ≡ 0 → Ready members axles
 unfolding stateFault
 state-clear members axles e =
     let first = none (11 unless not (eqb members 0)) (12 unless not (eqb axles 0) ∷ []) e in
@@ -44,7 +44,7 @@ state-clear members axles e =
       vehicle = not-none axles (passed 12 (not (eqb axles 0)) (omega arith) (second .0));
     }
 
-pub rate-clear : (members axles place : ℕ) → rateFault members axles place ≡ 0 → Ready members axles × (In (1 ‥ members) place)
+rate-clear : (members axles place : ℕ) → rateFault members axles place ≡ 0 → Ready members axles × (In (1 ‥ members) place)
 unfolding rateFault
 rate-clear members axles place e =
     let first = none (stateFault members axles) (13 unless isIn (1 ‥ members) place ∷ []) e in

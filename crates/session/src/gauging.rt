@@ -4,7 +4,6 @@ use crate::rate_fault;
 use files::Refusal;
 use gauge::Gauged;
 use gauge::Readings;
-use gauge::gauge;
 ghost use mathlib.Core.Path.{_≡_};
 ghost use Rattle.session.specs.Answers.{gaugeRead};
 ghost use Rattle.session.specs.Calls.{Valid};
@@ -34,7 +33,7 @@ impl Session {
         }
         let at = (place - 1) as usize;
         let m = survey.members[at];
-        let answer = gauge(m, vehicle.class, readings);
+        let answer = gauge::gauge(m, vehicle.class, readings);
         AfterGauge {
             session: self,
             answer,

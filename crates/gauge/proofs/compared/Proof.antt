@@ -7,7 +7,7 @@ use borrow.Author.Needs.{needs}
 use Rattle.section.specs.Fraction.{atMost}
 use Rattle.member.specs.Fields.{SPAN}
 use Rattle.member.proofs.Ranges.{number-cap}
-use Rattle.gauge.specs.Whole.{countedOf}
+use Rattle.gauge.specs.Whole.{countOf, countedOf}
 use Rattle.gauge.specs.Fault.{MayBeGauged}
 use Rattle.gauge.specs.Gauge.{deflection, deflectionOf}
 use Rattle.gauge.specs.Limit.{limit}
@@ -15,7 +15,7 @@ use Rattle.gauge.specs.Value.{valueOf, isReading}
 use Rattle.gauge.specs.declared.Readings.{Readings}
 use Rattle.gauge.proofs.Differences.{deflection-reading}
 use Rattle.gauge.proofs.Limits.{limit-sound}
-use Rattle.gauge.proofs.Values.{countOf, reading-counted, count-against}
+use Rattle.gauge.proofs.Values.{reading-counted, count-against}
 use Rattle.gauge.proofs.compared.Statement.{statement}
 use Rattle.gauge.proofs.compared.Tie as tie
 

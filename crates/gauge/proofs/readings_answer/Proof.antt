@@ -43,14 +43,14 @@ sixty-fourths-requires-2 c κs = search needs
 sixty-fourths-requires-3 : tie.Need-sixty-fourths-requires-3
 sixty-fourths-requires-3 c κs = search needs
 
-reading-test-requires : tie.Need-reading-test-requires
-reading-test-requires c κs = search needs
+fault-at-requires : tie.Need-fault-at-requires
+fault-at-requires c κs = search needs
 
-reading-test-requires-2 : tie.Need-reading-test-requires-2
-reading-test-requires-2 c κs = search needs
+fault-at-requires-2 : tie.Need-fault-at-requires-2
+fault-at-requires-2 c κs = search needs
 
-reading-test-requires-3 : tie.Need-reading-test-requires-3
-reading-test-requires-3 c κs = search needs
+fault-at-requires-3 : tie.Need-fault-at-requires-3
+fault-at-requires-3 c κs = search needs
 
 test-requires : tie.Need-test-requires
 test-requires c κs = search needs
@@ -73,9 +73,9 @@ returns c =
       c .before .or-else2 .ensures,
       c .before .before .or-else .ensures,
       c .before .before .before .test .ensures,
-      tested .reading-test3 .ensures,
-      tested .before .reading-test2 .ensures,
-      tested .before .before .reading-test .ensures,
+      tested .fault-at3 .ensures,
+      tested .before .fault-at2 .ensures,
+      tested .before .before .fault-at .ensures,
       counted .sixty-fourths3 .ensures,
       counted .before .sixty-fourths2 .ensures,
       counted .before .before .sixty-fourths .ensures,
@@ -88,9 +88,9 @@ readings-answer-spec =
     sixty-fourths-requires
     sixty-fourths-requires-2
     sixty-fourths-requires-3
-    reading-test-requires
-    reading-test-requires-2
-    reading-test-requires-3
+    fault-at-requires
+    fault-at-requires-2
+    fault-at-requires-3
     test-requires
     or-else-requires
     or-else-requires-2

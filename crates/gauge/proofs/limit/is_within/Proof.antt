@@ -4,12 +4,12 @@ use Prim.Native.Nat.{_≤_}
 use native.Mathlib.Omega.{arith}
 use borrow.Author.Needs.{needs}
 use Rattle.section.proofs.Products.{product-fits, product-cap}
-use Rattle.gauge.proofs.Limits.{within-over, part-cap, fifths-cap}
+use Rattle.gauge.proofs.Limits.{within-over, divisor-cap, fifths-cap}
 use Rattle.gauge.proofs.limit.is_within.Statement.{statement}
 use Rattle.gauge.proofs.limit.is_within.Tie as tie
 
-part : (c : tie.After-span-in-mm) → c .before .span-part .result ≤ 300
-part c = rw (c .before .span-part .ensures) (part-cap (c .before .before .number .result))
+divisor : (c : tie.After-span-in-mm) → c .before .span-divisor .result ≤ 300
+divisor c = rw (c .before .span-divisor .ensures) (divisor-cap (c .before .before .number .result))
 
 span : (c : tie.After-struct-known) → c .before .before .span-in-mm .result .0 ≤ 100000
 span c = omega (arith, c .before .before .span-in-mm .ensures, c .before .before .before .before .before .pre .1)
@@ -20,17 +20,17 @@ more c = rw (c .before .fifths .ensures) (fifths-cap (c .before .before .before 
 number-requires : tie.Need-number-requires
 number-requires c κs = search needs
 
-span-part-requires : tie.Need-span-part-requires
-span-part-requires c κs = search needs
+span-divisor-requires : tie.Need-span-divisor-requires
+span-divisor-requires c κs = search needs
 
 span-in-mm-requires : tie.Need-span-in-mm-requires
 span-in-mm-requires c κs = search needs
 
 mul-result : tie.Need-mul-result
-mul-result c = product-fits 300 5 tt (part c) (omega arith)
+mul-result c = product-fits 300 5 tt (divisor c) (omega arith)
 
 mul-result-2 : tie.Need-mul-result-2
-mul-result-2 c = product-fits 32768 1500 tt (omega (arith, c .before .before .before .pre .0)) (product-cap 300 5 (part c) (omega arith))
+mul-result-2 c = product-fits 32768 1500 tt (omega (arith, c .before .before .before .pre .0)) (product-cap 300 5 (divisor c) (omega arith))
 
 fifths-requires : tie.Need-fifths-requires
 fifths-requires c κs = search needs
@@ -44,14 +44,14 @@ mul-result-4 c = product-fits 600000 64 tt (product-cap 100000 6 (span c) (more 
 returns : tie.Need-returns
 returns c =
     let a = c .before .before .before .before .before .args in
-    rw (c .before .before .before .span-part .ensures, c .before .before .before .before .number .ensures, c .before .before .span-in-mm .ensures, c .before .fifths .ensures) (within-over (a .m) (a .count) (a .class))
+    rw (c .before .before .before .span-divisor .ensures, c .before .before .before .before .number .ensures, c .before .before .span-in-mm .ensures, c .before .fifths .ensures) (within-over (a .m) (a .count) (a .class))
 
 pub is-within-spec : {M : Type 1} → statement M
 is-within-spec =
     tie.close
     (tie.spec
     number-requires
-    span-part-requires
+    span-divisor-requires
     span-in-mm-requires
     mul-result
     mul-result-2

@@ -7,8 +7,8 @@ use borrow.Author.Needs.{needs}
 use Rattle.gauge.proofs.reading.scaled.Statement.{statement}
 use Rattle.gauge.proofs.reading.scaled.Tie as tie
 
-wide-requires : tie.Need-wide-requires
-wide-requires c κs = search needs
+widest-requires : tie.Need-widest-requires
+widest-requires c κs = search needs
 
 sub-result : tie.Need-sub-result
 sub-result c = search needs
@@ -20,7 +20,7 @@ shl-result : tie.Need-shl-result
 shl-result c = search needs
 
 returns : tie.Need-returns
-returns c = rw (c .wide .ensures) (shl-exact 24 (c .before .args .exponent - 121) 64 (c .before .pre .0) (omega arith))
+returns c = rw (c .widest .ensures) (shl-exact 24 (c .before .args .exponent - 121) 64 (c .before .pre .0) (omega arith))
 
 pub scaled-spec : {M : Type 1} → statement M
-scaled-spec = tie.close (tie.spec wide-requires sub-result cast-result shl-result returns)
+scaled-spec = tie.close (tie.spec widest-requires sub-result cast-result shl-result returns)

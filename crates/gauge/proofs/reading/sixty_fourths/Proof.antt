@@ -57,9 +57,9 @@ counted-requires c κs = search needs
 
 returns-2 : tie.Need-returns-2
 returns-2 c =
-    c .counted .ensures ∙
-    no-bit ∙
-    ap countedOf (ap (ofBits binary32) (sym (c .before .if2 .taken)) ∙ pattern (c .before .before .before))
+    let start = c .before .before .before in
+    let none-set : toBits binary32 (start .args .x) ≡ 0 = omega (arith, c .before .if2 .taken) in
+    c .counted .ensures ∙ no-bit ∙ ap countedOf (ap (ofBits binary32) (sym none-set) ∙ pattern start)
 
 no-reading-requires-2 : tie.Need-no-reading-requires-2
 no-reading-requires-2 c κs = search needs

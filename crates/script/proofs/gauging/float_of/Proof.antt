@@ -1,6 +1,5 @@
 -- `float_of` is safe: a pattern that is not above the infinity's is no NaN's.
 -- Assumes nothing.
-use mathlib.Core.Bool.{not}
 use lib.Ieee.{binary32}
 use lib.Ieee.Bits.{nanBits-above}
 use borrow.Author.Needs.{needs}

@@ -11,11 +11,11 @@ slice-aggregate-text c = search needs
 text-requires : tie.Need-text-requires
 text-requires c κs = search needs
 
-float-to-bits-wide : tie.Need-float-to-bits-wide
-float-to-bits-wide c = a-number (c .before .args .x) (c .if1 .left)
+float-to-bits-widest : tie.Need-float-to-bits-widest
+float-to-bits-widest c = a-number (c .before .args .x) (c .if1 .left)
 
-wide-requires : tie.Need-wide-requires
-wide-requires c κs = search needs
+widest-requires : tie.Need-widest-requires
+widest-requires c κs = search needs
 
 number-requires : tie.Need-number-requires
 number-requires c κs = search needs
@@ -32,8 +32,8 @@ bits-spec =
     (tie.spec
     slice-aggregate-text
     text-requires
-    float-to-bits-wide
-    wide-requires
+    float-to-bits-widest
+    widest-requires
     number-requires
     returns
     returns-2)

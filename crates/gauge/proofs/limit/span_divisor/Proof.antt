@@ -1,11 +1,11 @@
--- `span_part` meets its contract: the test is the definition's.
+-- `span_divisor` meets its contract: the test is the definition's.
 -- Assumes nothing.
 use Prim.Native.Nat.{ℕ}
 use mathlib.Core.Path.{_≡_}
 use mathlib.Core.Bool.{true, false, _||_}
 use lib.Dec.{eqb}
-use Rattle.gauge.proofs.limit.span_part.Statement.{statement}
-use Rattle.gauge.proofs.limit.span_part.Tie as tie
+use Rattle.gauge.proofs.limit.span_divisor.Statement.{statement}
+use Rattle.gauge.proofs.limit.span_divisor.Tie as tie
 
 returns : tie.Need-returns
 returns c =
@@ -19,5 +19,5 @@ returns-2 c =
     let none : (eqb kind 1 || eqb kind 2 || eqb kind 7) ≡ false = c .if1 .left in
     rw none
 
-pub span-part-spec : {M : Type 1} → statement M
-span-part-spec = tie.close (tie.spec returns returns-2)
+pub span-divisor-spec : {M : Type 1} → statement M
+span-divisor-spec = tie.close (tie.spec returns returns-2)
