@@ -3,7 +3,7 @@
 -- Assumes nothing.
 use Prim.Native.Nat.{ℕ, zero, suc, _+_, _-_, _*_, _/_, _%_, _^_, _≤_, _<_}
 use mathlib.Core.Path.{_≡_, refl, sym, ap, _∙_, subst}
-use mathlib.Core.Bool.{Bool, true, false, not, _&&_, cond}
+use mathlib.Core.Bool.{Bool, true, false, not, _&&_, cond, and-true, and-false}
 use mathlib.Core.Logic.{inl, inr}
 use native.Mathlib.Nat.{mod-eq-of-lt, mul-assoc, mul-pos, mul-le-mul, lt-of-lt-of-le, div-add-mod', mul-mod-left}
 use native.Mathlib.Omega.{arith}
@@ -18,10 +18,6 @@ use Rattle.section.proofs.Order.{≐-refl, ≐-sym, ≐-trans, over-sound, over
 use Rattle.gauge.specs.Whole.{countOf}
 use Rattle.gauge.specs.Value.{valueOf, isClear, isReading}
 use Rattle.gauge.proofs.Values.{has-value, reading-by, counted-by}
-
-and-false : (t : Bool) → (t && false) ≡ false
-and-false true = refl
-and-false false = refl
 
 -- `odd 24 s q k 149` is q times 2 ^ k, in units of the least f32, 2 ^ -149. With a set sign bit it is no reading.
 signed-odd : (q k : ℕ) → isReading (odd 24 true q k 149) ≡ false
@@ -134,10 +130,6 @@ whole-parts p =
 
     divides : (k : ℕ) → p ≡ k * 8388608 → p % 8388608 ≡ 0
     divides k e = ap (λ (n : ℕ). n % 8388608) e ∙ mul-mod-left k 8388608
-
-and-true : (t : Bool) → (t && true) ≡ t
-and-true true = refl
-and-true false = refl
 
 module _ (b : ℕ) (low : 121 ≤ b / 8388608) (high : b / 8388608 ≤ 135) where
   number : ofBits binary32 b ≡ odd 24 false (8388608 + b % 8388608) (b / 8388608 - 121 + 120) 149

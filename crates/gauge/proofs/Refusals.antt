@@ -12,8 +12,9 @@ use Rattle.files.specs.Reading.{firstFault, orElse, test}
 use Rattle.files.specs.Words.{each}
 use Rattle.files.specs.declared.Reading.{Reading}
 use Rattle.files.specs.declared.Reading.the-variants.{Taken}
+use Rattle.files.proofs.Tests.{refutes}
 use Rattle.files.proofs.Faults.{refusal, reading-case, both-taken, test-holds, failing, all-hold, hold-all, first-failing, failing-named}
-use Rattle.gauge.specs.Value.{valueOf, isReading, IsReading}
+use Rattle.gauge.specs.Value.{valueOf, isReading}
 use Rattle.gauge.specs.Gauge.{readingTests}
 use Rattle.gauge.specs.Fault.{readingAt, AllReadings, ReadingFault, bad-reading, after-above, MayBeGauged}
 use Rattle.gauge.specs.declared.Readings.{Readings}
@@ -51,22 +52,22 @@ module _ (r : Readings) where
 
   -- a fault in plain words is the refusal
   pub fault-refused : (n p : ℕ) → ReadingFault r n p → readingTests r ≡ refusal n p
-  fault-refused n p (bad-reading i l before bad) = tests ∙ rw (first-failing 20 (omega arith) good i 3 l (λ k m. is-reading _ (before k m)) (is-bad i bad))
-    where
-      is-bad : (i : ℕ) → ¬ (IsReading (readingAt r i)) → good i ≡ false
-      is-bad i bad = elim (decided (good i)) [ inl e ↦ absurd (bad (reading-is _ e)) | inr e ↦ e ]
+  fault-refused n p (bad-reading i l before bad) = tests ∙ rw (first-failing 20 (omega arith) good i 3 l (λ k m. is-reading _ (before k m)) (refutes (good i) (reading-is _) bad))
   fault-refused n p (after-above all over) = tests ∙ rw (good-row all, is-above over)
 
   -- the readings pass every test, or have a fault
-  pub passed-or-fault : MayBeGauged r ⊎ ((n p : ℕ) × ReadingFault r n p)
-  passed-or-fault = reading-case row (λ a. row ≡ a → MayBeGauged r ⊎ ((n p : ℕ) × ReadingFault r n p)) (λ e f. ordered (row-good e)) (λ q e f. named (failing-named 20 (omega arith) good 3 q e)) refl
+  abbrev Outcome : Type 0
+  Outcome = MayBeGauged r ⊎ ((n p : ℕ) × ReadingFault r n p)
+
+  pub passed-or-fault : Outcome
+  passed-or-fault = reading-case row (λ a. Outcome) (λ e. ordered (row-good e)) (λ q e. named (failing-named 20 (omega arith) good 3 q e))
     where
-      ordered : AllReadings r → MayBeGauged r ⊎ ((n p : ℕ) × ReadingFault r n p)
+      ordered : AllReadings r → Outcome
       ordered all =
           elim (decided order) [
             | inl e ↦ inl (record { readings = all; order = at-most _ _ e })
             | inr e ↦ inr (20, 0, after-above all (above _ _ e))
           ]
 
-      named : (i : ℕ) × (i < 3) × ((k : ℕ) → k < i → good k ≡ true) × (good i ≡ false) → MayBeGauged r ⊎ ((n p : ℕ) × ReadingFault r n p)
+      named : (i : ℕ) × (i < 3) × ((k : ℕ) → k < i → good k ≡ true) × (good i ≡ false) → Outcome
       named (i, l, before, bad) = inr (20, i + 1, bad-reading i l (λ k m. reading-is _ (before k m)) (λ h. true≢false (sym (is-reading _ h) ∙ bad)))

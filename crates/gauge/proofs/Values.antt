@@ -3,6 +3,7 @@
 use Prim.Native.Nat.{ℕ, _*_, _/_, _%_, _^_, _≤_, _<_}
 use mathlib.Core.Path.{_≡_, refl, sym, ap, _∙_}
 use mathlib.Core.Bool.{true, false, not, _&&_, false≢true, true≢false}
+use mathlib.Core.Logic.{_↔_}
 use native.Mathlib.Nat.{mul-one, mul-mod-left, div-add-mod', lt-of-mul-lt-mul-right}
 use native.Mathlib.Omega.{arith}
 use lib.Dec.{T, eqb, leb}
@@ -95,9 +96,10 @@ all-passed : (x : Float) → Passed x → isReading x ≡ true
 unfolding isReading
 all-passed x p = rw (p .clear, p .multiple, p .below)
 
-sixty-fourth : (a : Fraction) (n : ℕ) → whole 64 · a ≐ whole n → a ≐ over n 64
+-- 64 times a fraction is n exactly where it is n 64ths
+times-64 : (a : Fraction) (n : ℕ) → (whole 64 · a ≐ whole n) ↔ (a ≐ over n 64)
 unfolding whole over _·_
-sixty-fourth a n e = record { out = omega (arith, e .out) }
+times-64 a n = (λ e. record { out = omega (arith, e .out) }, λ e. record { out = omega (arith, e .out) })
 
 below-512 : (a : Fraction) (n : ℕ) → a ≐ over n 64 → a ⊏ whole 512 → n < 2 ^ 15
 unfolding whole over
@@ -111,7 +113,7 @@ pub record Counted (x : Float) : Type 0 where
 pub reading-counted : (x : Float) → isReading x ≡ true → Counted x
 reading-counted x e =
     let p = passed x e in
-    let value : valueOf x ≐ over (countOf x) 64 = sixty-fourth (valueOf x) (countOf x) (whole-of (whole 64 · valueOf x) (p .multiple)) in
+    let value : valueOf x ≐ over (countOf x) 64 = times-64 (valueOf x) (countOf x) .0 (whole-of (whole 64 · valueOf x) (p .multiple)) in
     record { clear = p .clear; value = value; few = below-512 (valueOf x) (countOf x) value (above (whole 512) (valueOf x) (p .below)) }
 
 -- In plain words.
@@ -126,16 +128,12 @@ reading-is x e =
     let c = reading-counted x e in
     record { clear = clear-is x (c .clear); multiple = (countOf x, c .value); below = above (whole 512) (valueOf x) (passed x e .below) }
 
-sixty-four : (a : Fraction) (n : ℕ) → a ≐ over n 64 → whole 64 · a ≐ whole n
-unfolding whole over _·_
-sixty-four a n e = record { out = omega (arith, e .out) }
-
 pub is-reading : (x : Float) → IsReading x → isReading x ≡ true
 is-reading x h =
     all-passed x
     record {
       clear = ap isClear (h .clear .2);
-      multiple = of-whole (whole 64 · valueOf x) (h .multiple .0) (sixty-four (valueOf x) (h .multiple .0) (h .multiple .1));
+      multiple = of-whole (whole 64 · valueOf x) (h .multiple .0) (times-64 (valueOf x) (h .multiple .0) .1 (h .multiple .1));
       below = is-above (h .below);
     }
 
