@@ -5,7 +5,7 @@ use script::print;
 use script::run;
 
 // A script that fills this is too long: its last steps would be lost.
-const SPACE: usize = 393216;
+const SPACE: usize = 524288;
 
 fn main() {
     let mut space = [0u8; SPACE];

@@ -12,6 +12,7 @@ use lib.ListN.{length}
 use borrow.Author.Tests.{ne-eqb, eqb-false, lt-leb}
 use Rattle.section.specs.Choose.{choose}
 use Rattle.rating.specs.Compare.{Matching, SamePlaces, Heavier}
+use Rattle.member.specs.Fields.{MOST-MEMBERS}
 use Rattle.member.specs.Format.{AllowedMember, AllowedVehicle, In, _‥_}
 use Rattle.member.specs.Formula.{Permitted}
 use Rattle.member.specs.PermittedLoad.{formulaOf}
@@ -180,7 +181,7 @@ unfolding loadFiles judgeFiles thenJudge judge
 files-answer survey vehicle a b =
     let e = surveys.allowed-taken survey a in
     let f = vehicles.allowed-taken VEHICLE-VERSIONS vehicle b in
-    rw (survey-load newSession survey e, vehicle-load (record { survey = surveyOf survey; vehicle = newSession .vehicle }) vehicle f, judge-ready (surveyOf survey .count) (vehicleOf vehicle .axles) 128 (omega (arith, a .count)) (omega (arith, b .vehicle .axles)) (omega (arith, a .count)))
+    rw (survey-load newSession survey e, vehicle-load (record { survey = surveyOf survey; vehicle = newSession .vehicle }) vehicle f, judge-ready (surveyOf survey .count) (vehicleOf vehicle .axles) (2 * MOST-MEMBERS) (omega (arith, a .count)) (omega (arith, b .vehicle .axles)) (omega (arith, a .count)))
 
 -- an allowed survey file is taken
 allowed-loads : (s : Session) (bytes : List ℕ) → AllowedSurveyFile bytes → loadSurvey s bytes .answer ≡ Values []

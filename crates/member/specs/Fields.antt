@@ -73,7 +73,7 @@ LAST-CODE = 5
 
 -- the most members of a survey, and the most axles of a vehicle
 abbrev pub MOST-MEMBERS : ℕ
-MOST-MEMBERS = 64
+MOST-MEMBERS = 255
 
 abbrev pub MOST-AXLES : ℕ
 MOST-AXLES = 16

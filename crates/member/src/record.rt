@@ -51,7 +51,7 @@ pub const FIELDS: usize = 16;
 pub const CLOSE_STRINGER: u16 = 7;
 
 // The most members of a survey, and the most axles of a vehicle.
-pub const MOST_MEMBERS: usize = 64;
+pub const MOST_MEMBERS: usize = 255;
 
 pub const MOST_AXLES: usize = 16;
 

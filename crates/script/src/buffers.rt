@@ -6,7 +6,7 @@ use files::output::Written;
 use join::join;
 
 // The longest buffer that a script can ask for: more than the longest survey has.
-const MOST_BYTES: usize = 2100;
+const MOST_BYTES: usize = 8200;
 
 // What a byte of a lent buffer holds, so that bytes that were kept are seen.
 const KNOWN: u8 = 0xEE;

@@ -4,9 +4,10 @@ use session::Session;
 ghost use mathlib.Core.Path.{_≡_};
 ghost use lib.ListN.{length};
 ghost use Rattle.session.specs.Calls.{Valid};
+ghost use Rattle.script.specs.Lent.{MOST-ENTRIES};
 
-// The longest list that a script can ask for.
-pub const MOST_ENTRIES: usize = 160;
+// The longest list that a script can ask for: two entries a member of the longest survey, and some more.
+pub const MOST_ENTRIES: usize = 520;
 
 // Entry i of a lent list holds KNOWN + i, so that entries that were kept are seen.
 pub const KNOWN: u64 = 1000000;
@@ -53,7 +54,7 @@ pub fn rate(session: Session, place: u64) -> Session
 }
 
 pub fn known_list() -> [u64; MOST_ENTRIES]
-    ensures { λ r. ⌜ 160 ≡ length r ⌝ }
+    ensures { λ r. ⌜ MOST-ENTRIES ≡ length r ⌝ }
 {
     let mut list = [0u64; MOST_ENTRIES];
     let mut i: usize = 0;

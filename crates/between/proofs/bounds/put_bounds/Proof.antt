@@ -4,6 +4,7 @@ use Prim.Native.Nat.{_*_, _-_, _≤_, _<_}
 use mathlib.Core.Path.{_≡_}
 use native.Mathlib.Omega.{arith}
 use lib.ListN.{length, getD, length-set}
+use Rattle.member.specs.Fields.{MOST-MEMBERS}
 use Rattle.between.specs.Between.{boundsWritten}
 use Rattle.between.proofs.Lists.{bounds-none, bounds-next, bounds-length}
 use Rattle.between.proofs.bounds.put_bounds.Statement.{statement}
@@ -15,11 +16,11 @@ Inv-loop list₀ count low high i₀ list i = (i ≤ count) × (list ≡ boundsW
 abbrev μ-loop : tie.MeasureT-loop
 μ-loop list₀ count low high i₀ list i = count - i
 
--- a turn's index stays below 64 and the list keeps its length
+-- a turn's index stays below the most members and the list keeps its length
 kept : (c : tie.At-loop Inv-loop μ-loop) → length (c .loop .list) ≡ length (c .before .args .list .now)
 kept c = rw (c .loop .inv .1) (bounds-length _ _ (c .loop .i) _ (omega (arith, c .loop .inv .0, c .before .pre .1)))
 
-few : (c : tie.In-loop Inv-loop μ-loop) → c .before .loop .i < 64
+few : (c : tie.In-loop Inv-loop μ-loop) → c .before .loop .i < MOST-MEMBERS
 few c = omega (arith, c .before .before .pre .0)
 
 loop-holds : tie.Need-loop-holds Inv-loop μ-loop

@@ -5,6 +5,7 @@ use mathlib.Core.Path.{_≡_, refl, sym, ap, _∙_}
 use mathlib.Core.Bool.{Bool}
 use native.Mathlib.Omega.{arith}
 use borrow.Author.Needs.{needs}
+use Rattle.member.specs.Fields.{MOST-MEMBERS}
 use Rattle.rating.specs.Surveyed.{memberAt}
 use Rattle.files.specs.Reading.{_unless_, firstFault}
 use Rattle.files.specs.Words.{each}
@@ -26,7 +27,7 @@ Inv-loop first second count answer₀ i₀ answer i = (i ≤ count) × (answer �
 abbrev μ-loop : tie.MeasureT-loop
 μ-loop first second count answer₀ i₀ answer i = count - i
 
-few : (c : tie.In-loop Inv-loop μ-loop) → c .before .loop .i < 64
+few : (c : tie.In-loop Inv-loop μ-loop) → c .before .loop .i < MOST-MEMBERS
 few c = omega (arith, c .before .before .before .pre)
 
 returns : tie.Need-returns Inv-loop μ-loop

@@ -1,15 +1,16 @@
 -- `print_members` ends: the places go up to the most that a survey has. The session is the same in each turn.
-use Prim.Native.Nat.{_≤_, _-_}
+use Prim.Native.Nat.{_+_, _-_, _≤_}
 use native.Mathlib.Omega.{arith}
 use borrow.Author.Needs.{needs}
+use Rattle.member.specs.Fields.{MOST-MEMBERS}
 use Rattle.bridge.proofs.report.print_members.Statement.{statement}
 use Rattle.bridge.proofs.report.print_members.Tie as tie
 
 abbrev Inv-loop : tie.InvT-loop
-Inv-loop session place₀ place = place ≤ 65
+Inv-loop session place₀ place = place ≤ MOST-MEMBERS + 1
 
 abbrev μ-loop : tie.MeasureT-loop
-μ-loop session place₀ place = 65 - place
+μ-loop session place₀ place = MOST-MEMBERS + 1 - place
 
 loop-holds : tie.Need-loop-holds Inv-loop μ-loop
 loop-holds c = omega arith

@@ -5,6 +5,7 @@ use mathlib.Core.Path.{_≡_, refl}
 use native.Mathlib.Omega.{arith}
 use lib.ListN.{length, take, length-set}
 use borrow.Author.Needs.{needs}
+use Rattle.member.specs.Fields.{MOST-MEMBERS}
 use Rattle.rating.specs.Judgement.{everyPasses, least, firstThat, loads, written, judgementOf}
 use Rattle.rating.proofs.Turns.{turn-judged, turn-written, list-length}
 use Rattle.rating.proofs.judging.judge.Statement.{statement}
@@ -17,11 +18,11 @@ Inv-loop v list₀ s count j₀ i₀ list j i =
 abbrev μ-loop : tie.MeasureT-loop
 μ-loop v list₀ s count j₀ i₀ list j i = count - i
 
--- a turn's index stays below 64 and the list keeps its length
+-- a turn's index stays below the most members and the list keeps its length
 kept : (c : tie.At-loop Inv-loop μ-loop) → length (c .loop .list) ≡ length (c .before .before .args .list .now)
 kept c = list-length _ _ _ _ (c .loop .inv .0) (c .before .before .pre .2) (c .loop .inv .2)
 
-few : (c : tie.In-loop Inv-loop μ-loop) → c .before .loop .i < 64
+few : (c : tie.In-loop Inv-loop μ-loop) → c .before .loop .i < MOST-MEMBERS
 few c = omega (arith, c .before .before .before .pre .0 .count)
 
 loop-holds : tie.Need-loop-holds Inv-loop μ-loop

@@ -4,14 +4,15 @@ use mathlib.Core.Path.{_≡_}
 use native.Mathlib.Omega.{arith}
 use borrow.Author.Needs.{needs}
 use lib.ListN.{length}
+use Rattle.script.specs.Lent.{MOST-ENTRIES}
 use Rattle.script.proofs.calls.known_list.Statement.{statement}
 use Rattle.script.proofs.calls.known_list.Tie as tie
 
 abbrev Inv-loop : tie.InvT-loop
-Inv-loop list₀ i₀ list i = (i ≤ 160) × (160 ≡ length list)
+Inv-loop list₀ i₀ list i = (i ≤ MOST-ENTRIES) × (MOST-ENTRIES ≡ length list)
 
 abbrev μ-loop : tie.MeasureT-loop
-μ-loop list₀ i₀ list i = 160 - i
+μ-loop list₀ i₀ list i = MOST-ENTRIES - i
 
 loop-holds : tie.Need-loop-holds Inv-loop μ-loop
 loop-holds c = search needs
