@@ -8,14 +8,14 @@ use native.Mathlib.Decide.{decLe}
 use native.Mathlib.Omega.{arith}
 use Rattle.member.specs.Fields.{MOST-MEMBERS}
 use lib.Dec.{eqb, leb}
-use lib.ListN.{replicate}
 use lib.Seq.{getD-take}
 use borrow.Author.Tests.{ne-eqb, le-leb, leb-true}
 use Rattle.member.specs.Format.{AllowedMember, AllowedVehicle, In, _‥_}
-use Rattle.rating.specs.Surveyed.{memberAt}
+use Rattle.rating.specs.Judgement.{judgementOf}
+use Rattle.rating.specs.Surveyed.{AllowedSurvey, memberAt}
 use Rattle.files.specs.Reading.{_unless_, isIn}
 use Rattle.surveys.specs.SurveyFile.{readSurvey}
-use Rattle.vehicles.specs.VehicleFile.{VEHICLE-VERSIONS, readVehicle}
+use Rattle.vehicles.specs.VehicleFile.{VEHICLE-VERSIONS, readVehicle, blankVehicle}
 use Rattle.files.specs.declared.Reading.the-variants.{Taken, Refused}
 use Rattle.files.specs.declared.Refusal.{Refusal}
 use Rattle.surveys.specs.declared.SurveyRead.{SurveyRead}
@@ -23,9 +23,9 @@ use Rattle.vehicles.specs.declared.VehicleRead.{VehicleRead}
 use Rattle.files.proofs.Tests.{not-none, none, passed, in-range, range-in, refutes}
 use Rattle.vehicles.proofs.Vehicles.{taken-vehicle-allowed}
 use Rattle.between.proofs.Pairs.{taken-survey-allowed}
-use Rattle.session.specs.Answers.{loaded, judged, judgeAnswer, refusedBy}
-use Rattle.session.specs.Calls.{Valid, newSession, members, stateFault, rateFault, judgeFault, loadSurvey, loadVehicle, judge, loadFiles, thenJudge}
-use Rattle.session.specs.declared.AfterJudge.{AfterJudge}
+use Rattle.session.specs.Answers.{loaded, refusedBy, judgementAnswer}
+use Rattle.session.specs.Calls.{Valid, newSession, members, stateFault, rateFault, judgeFault, loadSurvey, loadVehicle, judge, loadFiles, thenJudge, judgeFiles}
+use Rattle.session.specs.Yard.{alone}
 use Rattle.session.specs.declared.AfterLoad.{AfterLoad}
 use Rattle.session.specs.declared.Session.{Session}
 
@@ -127,16 +127,6 @@ module _ (survey vehicle : List ℕ) where
   unfolding loadFiles
   second-loaded o p e t h = rw (h, ← e, t)
 
--- what a load left, judged: by its answer
-pub load-refused : (o : AfterLoad) (f : Refusal) → o .answer ≡ Refused f → refusedBy f ≡ thenJudge (loaded o) .answer
-unfolding thenJudge
-load-refused o f t = rw t
-
-pub load-judged : (o : AfterLoad) (r : AfterJudge) → o .answer ≡ Taken → judged r ≡ judge (o .session) (replicate (2 * MOST-MEMBERS) 0) →
-    judgeAnswer (r .answer) ≡ thenJudge (loaded o) .answer
-unfolding thenJudge
-load-judged o r t j = rw (t, ← j)
-
 -- the first of rate's tests that fails
 module _ (members axles place : ℕ) where
   pub no-survey-fault : members ≡ 0 → rateFault members axles place ≡ 11
@@ -161,3 +151,24 @@ pub judge-ready : (members axles entries : ℕ) → 0 < members → 0 < axles �
 unfolding judgeFault stateFault
 judge-ready members axles entries hm ha he =
     rw (ne-eqb members 0 (omega arith), ne-eqb axles 0 (omega arith), le-leb (2 * members) entries he)
+
+-- a vehicle loaded alone and judged, by how its file was read
+module _ (s : Session) (bytes : List ℕ) where
+  pub alone-refused : (f : Refusal) → readVehicle bytes .answer ≡ Refused f → alone s bytes ≡ refusedBy f
+  unfolding alone thenJudge loadVehicle
+  alone-refused f e = rw (alone, e)
+
+  pub alone-taken : AllowedSurvey (s .survey) → readVehicle bytes .answer ≡ Taken → alone s bytes ≡ judgementAnswer (judgementOf (members s) (readVehicle bytes .vehicle))
+  unfolding alone thenJudge loadVehicle judge
+  alone-taken a e =
+      rw (alone, e, judge-ready (s .survey .count) (readVehicle bytes .vehicle .axles) (2 * MOST-MEMBERS) (omega (arith, a .count)) (omega (arith, taken-vehicle-allowed VEHICLE-VERSIONS bytes e .axles)) (omega (arith, a .count)))
+
+-- both files, by how the survey was read
+module _ (survey vehicle : List ℕ) where
+  pub files-refused : (f : Refusal) → readSurvey survey .answer ≡ Refused f → judgeFiles survey vehicle .answer ≡ refusedBy f
+  unfolding judgeFiles thenJudge loadFiles loadSurvey
+  files-refused f e = rw e
+
+  pub files-alone : readSurvey survey .answer ≡ Taken → judgeFiles survey vehicle .answer ≡ alone (record { survey = readSurvey survey .survey; vehicle = blankVehicle }) vehicle
+  unfolding judgeFiles alone loadFiles loadSurvey
+  files-alone e = rw e

@@ -21,9 +21,7 @@ impl Session {
         ensures is { λ r. ⌜ gaugeRead r ≡ gauge self place readings ⌝ }
         ensures valid { λ r. ⌜ Valid (r .session) ⌝ }
     {
-        let survey = self.survey;
-        let vehicle = self.vehicle;
-        let number = rate_fault(survey.count, vehicle.axles, place);
+        let number = rate_fault(self.survey.count, self.vehicle.axles, place);
         if number != 0 {
             let answer = Gauged::Refused(Refusal { number, place: 0 });
             return AfterGauge {
@@ -32,8 +30,9 @@ impl Session {
             };
         }
         let at = (place - 1) as usize;
+        let survey = self.survey;
         let m = survey.members[at];
-        let answer = gauge::gauge(m, vehicle.class, readings);
+        let answer = gauge::gauge(m, self.vehicle.class, readings);
         AfterGauge {
             session: self,
             answer,

@@ -4,7 +4,10 @@ ghost use mathlib.Core.Path.{_≡_};
 ghost use Rattle.session.specs.Answers.{verdictNumber, loaded, rated, judged, judgeAnswer};
 ghost use Prim.Native.Nat.{_≤_};
 ghost use Rattle.member.specs.Fields.{MOST-MEMBERS};
-ghost use Rattle.session.specs.Calls.{Valid, newSession, loadSurvey, loadVehicle, stateFault, rateFault, judgeFault, rate, judge, judgeList, loadFiles, thenJudge, judgeFiles};
+ghost use Rattle.session.specs.Calls.{Valid, newSession, loadSurvey, loadVehicle, stateFault, rateFault, judgeFault, rate, judge, judgeList, loadFiles, judgeFiles};
+ghost use Rattle.session.specs.Yard.{alone};
+ghost use Rattle.rating.specs.Surveyed.{AllowedSurvey};
+ghost use Rattle.vehicles.specs.VehicleFile.{blankVehicle};
 
 pub mod gauging;
 pub mod readings;
@@ -143,7 +146,7 @@ fn rate_fault(members: usize, axles: usize, place: u64) -> u64
     0
 }
 
-// 11, 12, 14 list shorter than two entries a member, or 0. A survey has at most 64 members.
+// 11, 12, 14 list shorter than two entries a member, or 0. So few members that twice their number does not overflow.
 fn judge_fault(members: usize, axles: usize, entries: usize) -> u64
     requires { ⌜ members ≤ MOST-MEMBERS ⌝ }
     ensures { λ r. ⌜ r ≡ judgeFault members axles entries ⌝ }
@@ -165,9 +168,7 @@ impl Session {
         ensures is { λ r. ⌜ rated r ≡ rate self place ⌝ }
         ensures valid { λ r. ⌜ Valid (r .session) ⌝ }
     {
-        let survey = self.survey;
-        let vehicle = self.vehicle;
-        let number = rate_fault(survey.count, vehicle.axles, place);
+        let number = rate_fault(self.survey.count, self.vehicle.axles, place);
         if number != 0 {
             let answer = Rated::Refused(Refusal { number, place: 0 });
             return AfterRate {
@@ -176,8 +177,9 @@ impl Session {
             };
         }
         let at = (place - 1) as usize;
+        let survey = self.survey;
         let m = survey.members[at];
-        let answer = Rated::Loads(judging::rate(m, vehicle));
+        let answer = Rated::Loads(judging::rate(m, self.vehicle));
         AfterRate {
             session: self,
             answer,
@@ -191,9 +193,7 @@ impl Session {
         ensures list { λ r. ⌜ now (list .exit) ≡ judgeList self (now (list .entry)) ⌝ }
         ensures valid { λ r. ⌜ Valid (r .session) ⌝ }
     {
-        let survey = self.survey;
-        let vehicle = self.vehicle;
-        let number = judge_fault(survey.count, vehicle.axles, list.len());
+        let number = judge_fault(self.survey.count, self.vehicle.axles, list.len());
         if number != 0 {
             let answer = Judged::Refused(Refusal { number, place: 0 });
             return AfterJudge {
@@ -201,7 +201,7 @@ impl Session {
                 answer,
             };
         }
-        let answer = Judged::Figures(judging::judge(survey, vehicle, list));
+        let answer = Judged::Figures(judging::judge(self.survey, self.vehicle, list));
         AfterJudge {
             session: self,
             answer,
@@ -235,24 +235,30 @@ pub fn verdict_number(v: Verdict) -> u64
     }
 }
 
-// Judges what a load left, unless it was refused. Only the judgement is wanted, so the list is one that is long enough for any survey.
-fn judge_loaded(after: AfterLoad) -> Judged
-    requires { ⌜ Valid (after .session) ⌝ }
-    ensures { λ r. ⌜ judgeAnswer r ≡ thenJudge (loaded after) .answer ⌝ }
+// The judgement of a survey for the vehicle of a file, or the vehicle's refusal. Only the judgement is wanted, so the list is one that is long
+// enough for any survey.
+fn judge_vehicle(survey: Survey, vehicle: &[u8]) -> Judged
+    requires { ⌜ AllowedSurvey survey ⌝ }
+    ensures { λ r. ⌜ judgeAnswer r ≡ alone (record { survey = survey; vehicle = blankVehicle }) (now (vehicle .entry)) ⌝ }
 {
-    let answer = after.answer;
+    let read = read_vehicle(vehicle);
+    let answer = read.answer;
     if let Reading::Refused(refusal) = answer {
         return Judged::Refused(refusal);
     }
     let mut list = [0u64; 2 * MOST_MEMBERS];
-    let session = after.session;
-    let judged = session.judge(&mut list);
-    judged.answer
+    Judged::Figures(judging::judge(survey, read.vehicle, &mut list))
 }
 
-// The judgement on the bytes of both files: the refusal of the first that is refused, or what judge gives.
+// The judgement on the bytes of both files: the refusal of the first that is refused, or what judge gives. It needs no session, which would be
+// copied from call to call.
 pub fn judge_files(survey: &[u8], vehicle: &[u8]) -> Judged
     ensures { λ r. ⌜ judgeAnswer r ≡ judgeFiles (now (survey .entry)) (now (vehicle .entry)) .answer ⌝ }
 {
-    judge_loaded(load_files(survey, vehicle))
+    let read = read_survey(survey);
+    let answer = read.answer;
+    if let Reading::Refused(refusal) = answer {
+        return Judged::Refused(refusal);
+    }
+    judge_vehicle(read.survey, vehicle)
 }
