@@ -57,7 +57,7 @@ fn formula_10(w: u64, beta: u64, l: u64) -> u64 {
 
 /// All answers equal to the reference's.
 fn agree(members: &[Words], class: u8, track: u16) {
-    for members in members.chunks(64) {
+    for members in members.chunks(MOST_MEMBERS) {
         let (survey, vehicle) = (survey_bytes(members), vehicle(class, track));
         let answer = library(&survey, &vehicle);
         assert!(answer.is_ok(), "{answer:?}");
@@ -274,7 +274,7 @@ fn where_seven_stringers_begin() {
     let mut random = Random::new(seed(0x7b2_0007));
     let members: Vec<Words> = (0..20_000).filter_map(|_| at_seven_stringers(&mut random)).collect();
     assert!(members.len() > 10_000, "{} at the border", members.len());
-    for members in members.chunks(64) {
+    for members in members.chunks(MOST_MEMBERS) {
         agree(members, 0, random.between(100, 300));
     }
 }

@@ -33,6 +33,9 @@ pub const LAST_KIND: u16 = 7;
 /// The kind of closely spaced stringers.
 pub const CLOSE_STRINGER: u16 = 7;
 
+/// The most members of a survey, which is all that its count of one byte holds.
+pub const MOST_MEMBERS: usize = 255;
+
 /// The survey's version 1: its records stand as they come.
 pub const FREE_ORDER: u16 = 1;
 /// Version 2: its records stand in one order.

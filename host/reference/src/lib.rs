@@ -1,4 +1,4 @@
-//! Document 01 and requests 1 to 11 of document 02 in plain Rust, written from the documents alone,
+//! Document 01 and requests 1 to 12 of document 02 in plain Rust, written from the documents alone,
 //! and a generator of files.
 //!
 //! The proved library is tested against it. It tries every position of the vehicle, counts in

@@ -56,15 +56,19 @@ pub struct Vehicle {
 struct Form {
     mark: &'static [u8; 3],
     header: usize,
-    most: u8,
+    most: usize,
     each: fn(u16) -> usize,
 }
 
-const SURVEY: Form = Form { mark: b"TBR", header: SURVEY_HEADER, most: 64, each: |_| 32 };
+const SURVEY: Form =
+    Form { mark: b"TBR", header: SURVEY_HEADER, most: MOST_MEMBERS, each: |_| RECORD };
 const VEHICLE: Form = Form { mark: b"TBV", header: VEHICLE_HEADER, most: 16, each: axle_bytes };
 
 /// The bytes of a survey before its records; the last of them is their count.
 pub const SURVEY_HEADER: usize = 6;
+
+/// The bytes of a survey's record.
+const RECORD: usize = size_of::<Words>();
 
 /// The bytes of a vehicle before its axles; the last of them is their count.
 pub const VEHICLE_HEADER: usize = 9;
@@ -91,11 +95,10 @@ fn header(bytes: &[u8], form: &Form, versions: &[u16]) -> Result<(u16, usize), u
     if bytes[..3] != form.mark[..] || !versions.contains(&version) {
         return Err(2);
     }
-    let count = bytes[form.header - 1];
+    let count = usize::from(bytes[form.header - 1]);
     if count < 1 || count > form.most {
         return Err(3);
     }
-    let count = usize::from(count);
     if bytes.len() != form.header + (form.each)(version) * count {
         return Err(1);
     }

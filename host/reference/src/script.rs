@@ -5,16 +5,16 @@ use crate::{Answer, Deflection, Judged, Member, Passing, Rated, Readings, Refuse
 use std::fmt::Write;
 
 /// The program takes scripts that are shorter than this.
-pub const SPACE: usize = 393_216;
+pub const SPACE: usize = 524_288;
 
 /// The most entries of a list that the program lends for a yard.
 const MOST_ANSWERS: usize = 40;
 
-/// The most entries of a list of numbers that it lends.
-const MOST_ENTRIES: usize = 160;
+/// The most entries of a list of numbers that it lends: more than two for each of 255 members.
+pub const MOST_ENTRIES: usize = 520;
 
-/// The most bytes of a buffer that it lends: more than the longest survey has, 6 + 32 × 64.
-pub const MOST_BYTES: usize = 2100;
+/// The most bytes of a buffer that it lends: more than the longest survey has, 6 + 32 × 255.
+pub const MOST_BYTES: usize = 8200;
 
 /// The bytes of a gauge's step: a place, and the bits of three readings.
 pub const GAUGE_BYTES: usize = 2 + 3 * 4;
@@ -170,6 +170,9 @@ impl Script {
     /// Judges with a list of so many entries; the whole list is printed as it is then.
     pub fn judge(&mut self, entries: usize) {
         self.step(b'J', entries, &[]);
+        if entries > MOST_ENTRIES {
+            return self.print("no list is so long");
+        }
         let mut list = known_list(entries);
         let answer = match self.judged(entries) {
             Ok(judged) => {

@@ -5,6 +5,7 @@ mod two_surveys;
 
 use reference::generate::*;
 use reference::layout::*;
+use reference::script::MOST_ENTRIES;
 use reference::{between, judge, reader, Between, Passing, Vehicle};
 use std::collections::BTreeMap;
 use two_surveys::*;
@@ -255,7 +256,7 @@ fn lists() {
     for entries in 0..6 {
         assert_eq!(said(&call(&first, &second, entries)), Err((14, 0)), "{entries} entries");
     }
-    for entries in [6, 7, 160] {
+    for entries in [6, 7, MOST_ENTRIES] {
         let answer = Ok((Passing::All, vec![(1343, 1720); 3]));
         assert_eq!(said(&call(&first, &second, entries)), answer);
     }
@@ -352,18 +353,19 @@ fn each_damage_has_its_number_and_place() {
     const SEED: u64 = 0xbe20_0004;
     let mut random = Random::new(SEED);
     let mut seen = BTreeMap::new();
-    for round in 0..3 {
+    for round in 0..2 {
         for DamagedPair { first, second, number, place } in damaged_pairs(&mut random) {
-            let answer = said(&Call { vehicle: Some(case_l()), first, second, entries: 128 });
+            let answer =
+                said(&Call { vehicle: Some(case_l()), first, second, entries: MOST_ENTRIES });
             assert_eq!(answer, Err((number, place)), "seed {SEED:#x}, round {round}");
             *seen.entry((number, place)).or_insert(0) += 1;
         }
     }
-    for place in 0..=64 {
-        assert!(seen.get(&(15, place)).is_some_and(|&times| times >= 6), "15 at {place}");
+    for place in 0..=MOST_MEMBERS as u64 {
+        assert!(seen.get(&(15, place)).is_some_and(|&times| times >= 4), "15 at {place}");
     }
     for number in [4, 5, 6, 7, 8, 16] {
-        assert!(seen.keys().filter(|key| key.0 == number).count() > 50, "{number}: {seen:?}");
+        assert!(seen.keys().filter(|key| key.0 == number).count() > 200, "{number}");
     }
 }
 

@@ -1,6 +1,7 @@
 //! One damage gives its own number and place, at every place that it can have.
 
 use reference::generate::*;
+use reference::layout::MOST_MEMBERS;
 use reference::{judge, File, Refused};
 
 const SEED: u64 = 0x0001_da3a_6e00;
@@ -29,7 +30,7 @@ fn all_numbers_are_tried_at_all_places() {
     let tried = |number, place| {
         surveys.iter().any(|d| d.refusal.number == number && d.refusal.place == place)
     };
-    for place in 1..=64 {
+    for place in 1..=MOST_MEMBERS as u64 {
         assert!(tried(4, place) && tried(6, place) && tried(7, place), "place {place}");
         let kind = (place - 1) % 7 + 1;
         assert_eq!(tried(5, place), kind != 6, "place {place} is of kind 6 or not");
@@ -66,7 +67,9 @@ fn headers_are_tested_in_the_documents_order() {
             marked[at] ^= 0x10;
             assert_eq!(number(&marked[..header]), answer(2), "2 comes before 3 and 1, byte {at}");
         }
-        for count in [0, if header == 6 { 65 } else { 17 }, 255] {
+        // A byte holds no more members than there may be; axles it does.
+        let too_many: &[u8] = if file == File::Survey { &[] } else { &[17, 255] };
+        for &count in [0].iter().chain(too_many) {
             let mut counted = bytes.clone();
             counted[header - 1] = count;
             assert_eq!(number(&counted), answer(3), "3 comes before 1, count {count}");

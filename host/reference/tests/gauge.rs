@@ -238,7 +238,7 @@ fn the_order_of_refusals() {
             assert_eq!(call(false, true, place), Err((11, 0)));
             assert_eq!(call(true, false, place), Err((12, 0)));
         }
-        for place in [0, 3, 64, 65, 256, 257, 258, 65_535] {
+        for place in [0, 3, 255, 256, 257, 258, 65_535] {
             assert_eq!(call(true, true, place), Err((13, 0)), "place {place}");
         }
         for place in [1, 2] {

@@ -8,6 +8,7 @@ use joins::{said, Said};
 use records::*;
 use reference::generate::*;
 use reference::layout::*;
+use reference::script::MOST_BYTES;
 use reference::{join, reader};
 
 /// Two surveys of version 1, with an output that is just long enough for the first.
@@ -310,7 +311,7 @@ fn counts() {
         assert_eq!(joined(&[STRINGER], &[second, STRINGER]), Err((18, 0)));
         assert_eq!(joined(&[second, STRINGER], &[STRINGER]), Err((18, 0)));
     }
-    assert_eq!(joined(&[STRINGER; 63], &[STRINGER; 64]), Err((18, 0)));
+    assert_eq!(joined(&[STRINGER; 254], &[STRINGER; MOST_MEMBERS]), Err((18, 0)));
 }
 
 /// "First record at fault, 18 before 19 in it"
@@ -330,9 +331,9 @@ fn the_first_record_at_fault() {
         let second = with(STRINGER, &[(word, STRINGER[word] + 6), (S3, 2)]);
         assert_eq!(said(&[second]), Err((18, 1)), "word {word}");
     }
-    for i in 0..64 {
+    for i in 0..MOST_MEMBERS {
         for (second, number) in [(far, 19), (other, 18), (both, 18)] {
-            let mut records = vec![STRINGER; 64];
+            let mut records = vec![STRINGER; MOST_MEMBERS];
             records[i] = second;
             assert_eq!(said(&records), Err((number, i as u64 + 1)));
         }
@@ -346,7 +347,7 @@ fn the_order_of_refusals() {
     let [no_kind, no_species] = [KIND, SPECIES].map(|word| with(STRINGER, &[(word, 0)]));
     let order = |first: &[Words], second: &[Words]| {
         let [first, second] = [first, second].map(survey_bytes);
-        let answers = [0, 38, 2100].map(|room| {
+        let answers = [0, 38, MOST_BYTES].map(|room| {
             said(&Join { first: first.clone(), second: second.clone(), room }).map(|_| ())
         });
         assert!(answers.iter().all(|answer| answer == &answers[0]), "{answers:?}");
@@ -386,10 +387,10 @@ fn files_that_are_no_surveys() {
 /// "14 if the output is too short", last.
 #[test]
 fn outputs_of_every_length() {
-    for members in [1, 2, 64] {
+    for members in [1, 2, 64, 65, MOST_MEMBERS] {
         let file = survey_bytes(&vec![STRINGER; members]);
         let least = 6 + 32 * members;
-        for room in (0..least).step_by(members).chain(least - 1..=2100) {
+        for room in (0..least).step_by(members).chain(least - 1..=least + 40) {
             let answer = said(&Join { first: file.clone(), second: file.clone(), room });
             let expected = if room < least { Err((14, 0)) } else { Ok(file.clone()) };
             assert_eq!(answer, expected, "{members} members, {room} bytes");

@@ -21,16 +21,16 @@ fn each_damage_has_its_number_and_place() {
         }
     }
     let times = |number, place| seen.get(&(number, place)).copied().unwrap_or(0);
-    for place in 1..=64 {
+    for place in 1..=MOST_MEMBERS as u64 {
         // Kind, number, and both a size and a number at least, in every round.
-        assert!(times(18, place) >= 8, "18 at {place}: {seen:?}");
-        assert!(times(19, place) >= 2, "19 at {place}: {seen:?}");
+        assert!(times(18, place) >= 8, "18 at {place}");
+        assert!(times(19, place) >= 1, "19 at {place}");
     }
     for number in [4, 5, 6, 7, 8, 16] {
-        assert!(seen.keys().filter(|key| key.0 == number).count() > 50, "{number}: {seen:?}");
+        assert!(seen.keys().filter(|key| key.0 == number).count() > 200, "{number}");
     }
-    for (number, least) in [(1, 60), (2, 60), (3, 24), (14, 120), (18, 300)] {
-        assert!(times(number, 0) >= least, "{number} at 0: {seen:?}");
+    for (number, least) in [(1, 60), (2, 60), (3, 6), (14, 120), (18, 1500)] {
+        assert!(times(number, 0) >= least, "{number} at 0");
     }
 }
 
@@ -88,7 +88,7 @@ fn joined_surveys_are_accepted() {
     let (mut moved, mut free) = (0, [0; 2]);
     for round in 0..6000 {
         let what = format!("seed {SEED:#x}, round {round}");
-        let members = if round % 100 == 0 { 64 } else { 1 + random.below(5) };
+        let members = if round % 100 == 0 { MOST_MEMBERS } else { 1 + random.below(5) };
         let call = sound_join(&mut random, round, members);
         let written = said(&call).unwrap_or_else(|fault| panic!("{what}: {fault:?}"));
         let [(one, first), (other, second)] = [&call.first, &call.second].map(|file| read(file));

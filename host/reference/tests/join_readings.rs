@@ -239,7 +239,7 @@ fn written(wrong: Option<Wrong>, call: &Join, first: &[Words], second: &[Words])
         Some(VersionOfTheSecond) => call.second[3],
         _ => 1,
     };
-    let count = u8::try_from(records.len()).expect("at most 64 members");
+    let count = u8::try_from(records.len()).expect("a count of one byte");
     let head = [b'T', b'B', b'R', version, 0, count].into_iter();
     head.chain(records.iter().flatten().flat_map(|word| word.to_le_bytes())).collect()
 }
@@ -294,7 +294,9 @@ fn wrong_readings_are_seen() {
         all.push(sound_join(&mut random, round, members));
         all.push(some_join(&mut random, 3));
     }
-    all.extend(damaged_joins(&mut random).into_iter().map(|damaged| damaged.join));
+    // A part of them, as each is read in every wrong way.
+    let damaged = damaged_joins(&mut random).into_iter().step_by(5);
+    all.extend(damaged.map(|damaged| damaged.join));
     for _ in 0..4 {
         for Apart { first, second, .. } in
             of_each_kind(&mut random, Spread::Wide).iter().flat_map(apart_in_one)

@@ -3,6 +3,7 @@
 
 use reference::generate::*;
 use reference::judge::{bridge, judge_members};
+use reference::layout::MOST_MEMBERS;
 use reference::{judge, Axle, Judged, Member, Rated, Vehicle};
 
 const NOTHING: Member =
@@ -120,7 +121,7 @@ fn the_first_governs_on_a_tie_of_unlike_members() {
 fn the_first_governs_of_equal_members() {
     assert_eq!(under(&[stringer(0), stringer(0)], 3000), (1720, 1, true, 520));
     assert_eq!(under(&[stringer(0), cross_beam(), cross_beam()], 3000), (1720, 2, true, 439));
-    assert_eq!(under(&vec![stringer(8); 64], 3000), (0, 1, false, -1200));
+    assert_eq!(under(&vec![stringer(8); MOST_MEMBERS], 3000), (0, 1, false, -1200));
 }
 
 /// The most negative margin, not the one nearest to 0.
@@ -139,9 +140,9 @@ fn the_least_of_negative_margins() {
 fn the_last_governs() {
     assert_eq!(under(&[chord(0), stringer(0), cross_beam()], 4300), (1720, 3, false, -211));
     assert_eq!(under(&[chord(0), stringer(0)], 4300), (1720, 2, true, 0));
-    let mut members = vec![stringer(0); 64];
-    members[63] = cross_beam();
-    assert_eq!(under(&members, 3000), (1720, 64, true, 439));
+    let mut members = vec![stringer(0); MOST_MEMBERS];
+    members[254] = cross_beam();
+    assert_eq!(under(&members, 3000), (1720, 255, true, 439));
 }
 
 /// No margin is below the governing member's, and those in front of it are above.

@@ -78,7 +78,7 @@ fn kind_then_span_then_spacing() {
 #[test]
 fn equals_stand_as_they_come() {
     for record in [at([1, 500, 140]), at([2, 300, 0]), at([3, 500, 140]), at([7, 500, 60])] {
-        assert_eq!(refusal(IN_ORDER, &[record; 64]), None);
+        assert_eq!(refusal(IN_ORDER, &[record; MOST_MEMBERS]), None);
         let used = used(record[KIND], record[SECTION]).map(|limit| limit.0);
         for word in used.chain([SPECIES]).filter(|&word| word != SPAN && word != SPACING) {
             let other = with(record, word, record[word] + 1);
@@ -101,7 +101,9 @@ const GREATER: [[u16; 3]; 3] = [[7, 500, 60], [3, 501, 140], [3, 500, 141]];
 /// All alike but one: where it is less it is itself too late, where it is greater the next one is.
 #[test]
 fn the_place_of_the_later_record() {
-    for (count, place) in (1..=64).flat_map(|count| (1..=count).map(move |place| (count, place))) {
+    let counts = [1, 2, 3, 63, 64, 65, 127, 128, 129, MOST_MEMBERS];
+    let places = |count| (1..=count).map(move |place| (count, place));
+    for (count, place) in counts.into_iter().flat_map(places) {
         let refusal = |one| {
             let mut records = vec![at([3, 500, 140]); count];
             records[place - 1] = at(one);
@@ -172,7 +174,7 @@ fn the_header_comes_first() {
         assert_eq!(refusal_of(&falling[..length]), Some((1, 0)), "{length} bytes");
     }
     assert_eq!(refusal_of(&[&falling[..], &[0]].concat()), Some((1, 0)));
-    for (byte, value, number) in [(0, b't', 2), (2, b'V', 2), (5, 0, 3), (5, 65, 3), (5, 3, 1)] {
+    for (byte, value, number) in [(0, b't', 2), (2, b'V', 2), (5, 0, 3), (5, 3, 1), (5, 65, 1)] {
         let mut bytes = falling.clone();
         bytes[byte] = value;
         assert_eq!(refusal_of(&bytes), Some((number, 0)), "byte {byte} is {value}");

@@ -164,7 +164,7 @@ fn each_damage_has_its_number_and_place() {
         }
     }
     // Three ways at each place, in every round.
-    for place in 2..=64 {
+    for place in 2..=MOST_MEMBERS as u64 {
         assert_eq!(seen.get(&(16, place)), Some(&12), "16 at {place}");
     }
     for number in 4..=8 {

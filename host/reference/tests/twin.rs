@@ -76,7 +76,7 @@ fn the_twin_agrees_on_every_track_and_spacing() {
     for track in 100..=300 {
         let vehicle =
             vehicle_bytes(&VehicleWords { version: 1, class: 0, track, axles: vec![[1, 0]] });
-        for members in members.chunks(64) {
+        for members in members.chunks(MOST_MEMBERS) {
             let survey = survey_bytes(members);
             let (fast, slow) = (twin::judge(&survey, &vehicle), judge(&survey, &vehicle));
             assert!(slow.is_ok(), "track {track}: {slow:?}");

@@ -10,7 +10,10 @@ use super::{
     any_survey, full_survey, in_order, misplace, survey, survey_bytes_of, vehicle, worse_survey,
     Misplaced, Random, Spread, VehicleWords, Wear,
 };
-use crate::layout::{used, Limit, Words, CLOSE_STRINGER, FREE_ORDER, IN_ORDER, KIND, SECTION};
+use crate::layout::{
+    used, Limit, Words, CLOSE_STRINGER, FREE_ORDER, IN_ORDER, KIND, MOST_MEMBERS, SECTION,
+};
+use crate::script::MOST_ENTRIES;
 use crate::{reader, twin, Axle, Vehicle};
 
 /// So many members that each bear something, as on a bridge in use.
@@ -74,8 +77,9 @@ pub fn vehicle_near(random: &mut Random, first: &[Words], second: &[Words]) -> V
 /// Entries of a list for so many members: mostly enough, often just too few or more.
 pub fn some_entries(random: &mut Random, members: usize) -> usize {
     let enough = 2 * members;
-    let any = random.below(161);
-    *random.pick(&[enough, enough, enough, enough, enough - 1, enough + 1, 160, any])
+    let any = random.below(MOST_ENTRIES + 1);
+    let more = (enough + 1).min(MOST_ENTRIES);
+    *random.pick(&[enough, enough, enough, enough, enough - 1, more, MOST_ENTRIES, any])
 }
 
 /// Two files with one thing wrong, or with more of what is looked at later, and the number and
@@ -220,7 +224,7 @@ pub(super) fn counted<W: Copy>(
     all
 }
 
-/// Two surveys of 64 members, refused in each way at each place.
+/// Two of the largest surveys, refused in each way at each place.
 pub fn damaged_pairs(random: &mut Random) -> Vec<DamagedPair> {
     let first = full_survey(random, Spread::Wide);
     let second = worse_survey(random, &first, Wear::SameSpread, 0);
@@ -228,7 +232,7 @@ pub fn damaged_pairs(random: &mut Random) -> Vec<DamagedPair> {
     let both = [ordered_pair(&free), free];
     let ways: (&[Disorder], Change<Disorder>) = (&Disorder::ALL, disorder);
     let mut all = Vec::new();
-    for i in 0..64 {
+    for i in 0..MOST_MEMBERS {
         let sound = random.pick(&both);
         all.extend(unfit(random, sound, i, ways, |_| 15));
         all.extend(refused(random, sound, i));

@@ -138,7 +138,8 @@ pub fn damage_vehicle(random: &mut Random, words: &mut VehicleWords, damage: Veh
     }
 }
 
-/// Cut short, lengthened, or with one byte changed: often within the header.
+/// Cut short, lengthened, or with one byte changed: often within the header, and often to 0, the
+/// only count that no survey has.
 pub(super) fn spoil(random: &mut Random, bytes: &mut Vec<u8>) {
     match random.below(5) {
         0 => bytes.truncate(random.below(bytes.len() + 1)),
@@ -148,8 +149,9 @@ pub(super) fn spoil(random: &mut Random, bytes: &mut Vec<u8>) {
         }
         way => {
             let end = if way == 2 { bytes.len().min(10) } else { bytes.len() };
+            let any = random.bits().to_le_bytes()[0];
             if end > 0 {
-                bytes[random.below(end)] = random.bits().to_le_bytes()[0];
+                bytes[random.below(end)] = *random.pick(&[0, any, any]);
             }
         }
     }

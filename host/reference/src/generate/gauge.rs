@@ -101,7 +101,7 @@ fn refused_readings(random: &mut Random) -> [u32; 3] {
 
 /// A place that a survey of so many members does not have.
 fn no_place(random: &mut Random, members: usize) -> usize {
-    *random.pick(&[0, 0, members + 1, members + 1, members + 2, 65, 256, 257, 65_535])
+    *random.pick(&[0, 0, members + 1, members + 1, members + 2, 256, 257, 65_535])
 }
 
 /// A call on a loaded survey with a vehicle of this class: mostly good readings near the limit.

@@ -5,7 +5,7 @@ use super::disagree::{disagree, Disagreement};
 use super::measured::{crossing, two_measured, two_measured_of};
 use super::order::with_version;
 use super::{full_survey, survey_bytes, survey_bytes_of, Random, Spread, NO_VERSIONS};
-use crate::layout::{Words, FREE_ORDER, IN_ORDER};
+use crate::layout::{Words, FREE_ORDER, IN_ORDER, MOST_MEMBERS};
 use crate::reader::SURVEY_HEADER;
 use crate::script::MOST_BYTES;
 
@@ -67,8 +67,8 @@ fn no_surveys(random: &mut Random) -> Vec<(Vec<u8>, u64)> {
     let mut all: Vec<(Vec<u8>, u64)> = (0..SURVEY_HEADER).map(|length| (cut(length), 1)).collect();
     all.extend(NO_VERSIONS.map(|version| (with_version(&sound, version), 2)));
     all.extend([0, 1, 2].map(|at| (with(at, b'V'), 2)));
-    all.extend([0, 65, 128, 255].map(|count| (with(SURVEY_HEADER - 1, count), 3)));
-    all.extend([1, 3, 64].map(|count| (with(SURVEY_HEADER - 1, count), 1)));
+    all.push((with(SURVEY_HEADER - 1, 0), 3));
+    all.extend([1, 3, 64, 65, 128, 254, 255].map(|count| (with(SURVEY_HEADER - 1, count), 1)));
     all.extend([SURVEY_HEADER, 38, sound.len() - 1].map(|length| (cut(length), 1)));
     all.push(([&sound[..], &[0]].concat(), 1));
     all
@@ -92,7 +92,7 @@ fn headers(random: &mut Random) -> Vec<DamagedPair> {
 /// Surveys that can be joined, with an output that is a byte too short, empty, or any such.
 fn too_short(random: &mut Random) -> Vec<DamagedJoin> {
     let mut all = Vec::new();
-    for (members, turn) in [1, 1, 2, 2, 3, 4, 63, 64].into_iter().zip(0..) {
+    for (members, turn) in [1, 1, 2, 2, 3, 4, 65, MOST_MEMBERS].into_iter().zip(0..) {
         let sound = sound_join(random, turn, members);
         let least = survey_length(members);
         for room in [0, SURVEY_HEADER, least - 32, least - 1, random.below(least)] {
@@ -102,7 +102,7 @@ fn too_short(random: &mut Random) -> Vec<DamagedJoin> {
     all
 }
 
-/// Joins that are refused: two surveys of 64 members in each way at each place, headers, and
+/// Joins that are refused: two of the largest surveys in each way at each place, headers, and
 /// outputs that are too short.
 pub fn damaged_joins(random: &mut Random) -> Vec<DamagedJoin> {
     let members = full_survey(random, Spread::Wide);

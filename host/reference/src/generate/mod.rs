@@ -49,7 +49,7 @@ pub use order::{
 pub use places::{damaged_surveys, damaged_vehicles, Damaged};
 pub use random::Random;
 pub use readings::{deflected, edge_readings, reading_bits, risen, NoReading, LAST_READING};
-pub use survey::{full_survey, of_each_kind, survey, survey_bytes, Spread};
+pub use survey::{full_survey, kinds_in_turn, of_each_kind, survey, survey_bytes, Spread};
 pub use tie::at_a_tie;
 pub use vehicle::{
     fitting_vehicle, vehicle, vehicle_bytes, vehicle_of, AxleWords, VehicleWords, HEAVY_EDGES,

@@ -67,7 +67,7 @@ pub fn survey_file(random: &mut Random, spread: Spread, count: usize) -> Vec<u8>
     some_version(random, &members)
 }
 
-/// The file of 64 members of all kinds, in either version.
+/// The file of as many members as there may be, of all kinds, in either version.
 pub fn full_survey_file(random: &mut Random, spread: Spread) -> Vec<u8> {
     let members = full_survey(random, spread);
     some_version(random, &members)
@@ -138,10 +138,10 @@ pub(super) fn misplace_one(random: &mut Random, records: &mut [Words]) {
     }
 }
 
-/// 64 records in order but for the one at this place.
+/// As many records as there may be, in order but for the one at this place.
 fn misplaced_at(random: &mut Random, i: usize, way: Misplaced) -> Vec<Words> {
     loop {
-        let mut records = in_order(&alike_survey(random, Spread::Wide, 64));
+        let mut records = in_order(&alike_survey(random, Spread::Wide, MOST_MEMBERS));
         if misplace(random, &mut records, i, way) {
             return records;
         }
@@ -158,8 +158,8 @@ fn damaged_too(random: &mut Random, records: &mut [Words]) -> (u64, u64) {
     }
 }
 
-/// Version 2 with 64 members, one before its predecessor in each way at each place, often with
-/// others behind it, then with another fault; the vehicle is sound.
+/// The largest surveys of version 2, one record before its predecessor in each way at each place,
+/// often with others behind it, then with another fault; the vehicle is sound.
 pub fn misplaced_surveys(random: &mut Random) -> Vec<Damaged> {
     let vehicle = vehicle_bytes(&vehicle(random, Spread::Wide, 16));
     let mut all = Vec::new();
@@ -168,10 +168,10 @@ pub fn misplaced_surveys(random: &mut Random) -> Vec<Damaged> {
         let refusal = Refused { file: File::Survey, number, place };
         all.push(Damaged { survey, vehicle, refusal });
     };
-    for i in 1..64 {
+    for i in 1..MOST_MEMBERS {
         for way in Misplaced::ALL {
             let mut records = misplaced_at(random, i, way);
-            for behind in i + 1..64 {
+            for behind in i + 1..MOST_MEMBERS {
                 if i % 2 == 0 && random.once_in(4) {
                     let way = *random.pick(&Misplaced::ALL);
                     misplace(random, &mut records, behind, way);
@@ -196,7 +196,7 @@ pub fn with_version(bytes: &[u8], version: u16) -> Vec<u8> {
 /// Sound files but for their version: surveys whose records are in order or not, and vehicles of
 /// either version.
 pub fn wrong_versions(random: &mut Random) -> Vec<Damaged> {
-    let (members, axles) = (1 + random.below(64), 1 + random.below(16));
+    let (members, axles) = (1 + random.below(MOST_MEMBERS), 1 + random.below(16));
     let survey = survey_bytes(&alike_survey(random, Spread::Wide, members));
     let vehicles =
         VERSIONS.map(|version| vehicle_bytes(&vehicle_of(random, version, Spread::Wide, axles)));

@@ -12,7 +12,7 @@ pub struct Damaged {
     pub refusal: Refused,
 }
 
-/// A survey of 64 members damaged in each way at each place; the vehicle is sound.
+/// The largest survey damaged in each way at each place; the vehicle is sound.
 pub fn damaged_surveys(random: &mut Random) -> Vec<Damaged> {
     let members = full_survey(random, Spread::Wide);
     let vehicle = vehicle_bytes(&vehicle(random, Spread::Wide, 16));

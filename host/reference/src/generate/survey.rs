@@ -96,9 +96,14 @@ pub fn of_each_kind(random: &mut Random, spread: Spread) -> Vec<Words> {
     met.into_values().collect()
 }
 
-/// 64 members of all kinds in turn.
+/// So many members of all kinds in turn.
+pub fn kinds_in_turn(random: &mut Random, spread: Spread, count: usize) -> Vec<Words> {
+    (1..=LAST_KIND).cycle().take(count).map(|kind| member(random, spread, kind)).collect()
+}
+
+/// As many members as a survey has at most, of all kinds in turn.
 pub fn full_survey(random: &mut Random, spread: Spread) -> Vec<Words> {
-    (0..64).map(|i| member(random, spread, i % LAST_KIND + 1)).collect()
+    kinds_in_turn(random, spread, MOST_MEMBERS)
 }
 
 /// The file of these members, in version 1, which has them as they come.

@@ -42,7 +42,7 @@ pub fn worse_survey(random: &mut Random, members: &[Words], wear: Wear, more: us
             }
         }
     }
-    let added = random.below((64 - members.len()).min(more) + 1);
+    let added = random.below((MOST_MEMBERS - members.len()).min(more) + 1);
     worse.extend(survey(random, Spread::Usual, added));
     worse
 }
