@@ -5,7 +5,7 @@
 use crate::records::*;
 use reference::generate::VehicleWords;
 use reference::layout::*;
-use reference::script::Script;
+use reference::script::{Script, MOST_ENTRIES};
 
 /// The call with a list that just holds the first survey's members.
 fn between(script: &mut Script, first: &[Words], second: &[Words]) {
@@ -102,20 +102,24 @@ fn counts(script: &mut Script) {
     between(script, &[worn, worn], &[sound, sound]);
 }
 
-fn lists(script: &mut Script) {
-    let [first, second] = [0, 1].map(|rot| survey_of(&[stringer(rot)]));
-    script.title("between, lists of every length");
-    for entries in [0, 1, 2, 3, 160, 161] {
-        script.between(&first, &second, entries);
-    }
-    let deeper = |words: Words| match (words[KIND], words[SECTION]) {
+/// The record with one number worn more than is usual.
+pub fn deeper(words: Words) -> Words {
+    match (words[KIND], words[SECTION]) {
         (CLOSE_STRINGER, _) => with(words, &[(DEAD_LOAD, 300)]),
         (3, _) => with(words, &[(S6, 90)]),
         (_, 2) => with(words, &[(S4, 4)]),
         (_, 3) => with(words, &[(S5, 3)]),
         (_, code) => with(words, &[(S2, if code == 4 { 200 } else { 5 })]),
-    };
-    let (first, second) = (full(), full().into_iter().map(deeper).collect::<Vec<_>>());
+    }
+}
+
+fn lists(script: &mut Script) {
+    let [first, second] = [0, 1].map(|rot| survey_of(&[stringer(rot)]));
+    script.title("between, lists of every length");
+    for entries in [0, 1, 2, 3, MOST_ENTRIES, MOST_ENTRIES + 1] {
+        script.between(&first, &second, entries);
+    }
+    let (first, second) = (in_turn(64), in_turn(64).into_iter().map(deeper).collect::<Vec<_>>());
     script.title("between, 64 members and a list of 127, of 129");
     for entries in [127, 129] {
         script.between(&survey_of(&first), &survey_of(&second), entries);

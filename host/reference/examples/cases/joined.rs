@@ -163,7 +163,7 @@ fn own_refusals(script: &mut Script) {
         ("a vehicle's mark", with_byte(&sound, 2, b'V')),
         ("version 3", with_version(&sound, 3)),
         ("no members", with_byte(&sound, 5, 0)),
-        ("65 members", with_byte(&sound, 5, 65)),
+        ("255 members, by its count", with_byte(&sound, 5, 255)),
         ("a kind", changed(KIND, 8)),
         ("a species", changed(SPECIES, 9)),
         ("a section", changed(SECTION, 3)),
@@ -213,11 +213,11 @@ fn outputs(script: &mut Script) {
     for room in [38, 69, 70, 71] {
         script.join(&one, &other, room);
     }
-    script.title("join, 64 members with a byte too little, and the longest output");
+    script.title("join, 64 members with a byte too little, and a byte more than enough");
     let heavier = |words: Words| with(words, &[(DEAD_LOAD, 203)]);
-    let second: Vec<Words> = full().into_iter().map(heavier).collect();
-    for room in [survey_length(64) - 1, MOST_BYTES] {
-        script.join(&survey_of(&full()), &survey_of(&second), room);
+    let second: Vec<Words> = in_turn(64).into_iter().map(heavier).collect();
+    for room in [survey_length(64) - 1, survey_length(64) + 1] {
+        script.join(&survey_of(&in_turn(64)), &survey_of(&second), room);
     }
 }
 

@@ -10,6 +10,7 @@ mod edges;
 mod gauge;
 mod heavier;
 mod joined;
+mod longer;
 mod margins;
 mod order;
 mod records;
@@ -38,6 +39,7 @@ fn script() -> Script {
     heavier::cases(&mut script);
     joined::cases(&mut script);
     gauge::cases(&mut script);
+    longer::cases(&mut script);
     script
 }
 

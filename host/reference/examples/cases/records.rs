@@ -61,10 +61,10 @@ pub fn three() -> Vec<Words> {
     vec![usual(1, 1), usual(4, 3), usual(6, 4)]
 }
 
-/// A full survey, all kinds in turn.
-pub fn full() -> Vec<Words> {
+/// So many members, all kinds and sections in turn.
+pub fn in_turn(count: usize) -> Vec<Words> {
     let all: Vec<Words> = kinds().map(|(kind, code)| usual(kind, code)).collect();
-    (0..64).map(|i| all[i % all.len()]).collect()
+    all.into_iter().cycle().take(count).collect()
 }
 
 /// Case A with this rot: 1720, 1343, 64 and 0 kgf/m for rot 0, 1, 7 and 8.

@@ -50,7 +50,7 @@ fn refused_surveys() -> Vec<Vec<u8>> {
     vec![
         sound[..sound.len() - 1].to_vec(),
         with_byte(&sound, 2, b'V'),
-        with_byte(&sound, 5, 65),
+        with_byte(&sound, 5, 0),
         changed(&[(KIND, 8)]),
         changed(&[(SPECIES, 9)]),
         changed(&[(SECTION, 4)]),
@@ -111,7 +111,7 @@ fn replaced(script: &mut Script) {
 pub fn cases(script: &mut Script) {
     orders(script, &three()[..1]);
     orders(script, &three());
-    orders(script, &full());
+    orders(script, &in_turn(64));
     kept(script);
     replaced(script);
 }

@@ -19,16 +19,11 @@ fn headers(script: &mut Script) {
     script.title("too short comes before the mark");
     script.survey(&with_byte(&sound, 0, 0)[..5]);
     script.title("count, before length");
-    for count in [0, 65, 128, 255] {
+    script.survey(&with_byte(&sound, 5, 0));
+    script.title("counts that the length does not have");
+    for count in [1, 2, 4, 64, 65, 128, 255] {
         script.survey(&with_byte(&sound, 5, count));
     }
-    script.title("counts that the length does not have, and 64 members");
-    for count in [1, 2, 4, 64] {
-        script.survey(&with_byte(&sound, 5, count));
-    }
-    script.survey(&survey_of(&full()));
-    let long: Vec<Words> = full().into_iter().chain([usual(1, 1)]).collect();
-    script.survey(&survey_of(&long));
 }
 
 /// A damaged record at one of three places, in turn.
@@ -109,17 +104,15 @@ fn order(turn: &mut Turn) {
     turn.script.survey(&survey_of(&[sound, sound, faults[2]]));
 }
 
-/// The largest survey, each number at its first, a middle and its last place.
-fn largest(script: &mut Script) {
-    let faults = [(KIND, 0), (SPECIES, 9), (SECTION, 6), (WHOLE_B, 1), (SPAN, 99)];
-    for (i, fault) in faults.into_iter().enumerate() {
-        for place in [1, 30 + i, 64] {
-            let mut members = full();
-            members[place - 1] = with(usual(1, 1), &[fault]);
-            script.title(&format!("64 members, word {} at place {place}", fault.0));
-            script.survey(&survey_of(&members));
-        }
-    }
+/// One word of a sound record for each refusal that a record has: 4, 5, 6, 8 and 7.
+pub const FAULTS: [(usize, u16); 5] =
+    [(KIND, 0), (SPECIES, 9), (SECTION, 6), (WHOLE_B, 1), (SPAN, 99)];
+
+/// Many members with a fault at this place.
+pub fn at_place(script: &mut Script, mut members: Vec<Words>, place: usize, fault: (usize, u16)) {
+    members[place - 1] = with(usual(1, 1), &[fault]);
+    script.title(&format!("{} members, word {} at place {place}", members.len(), fault.0));
+    script.survey(&survey_of(&members));
 }
 
 pub fn cases(script: &mut Script) {
@@ -131,5 +124,7 @@ pub fn cases(script: &mut Script) {
         words(&mut turn, kind, code);
     }
     order(&mut turn);
-    largest(script);
+    for (fault, place) in FAULTS.into_iter().zip([1, 30, 31, 63, 64]) {
+        at_place(script, in_turn(64), place, fault);
+    }
 }

@@ -16,7 +16,7 @@ fn sound() -> Vec<u8> {
 }
 
 /// So many vehicles: each heavier than the one before, of both classes, with tracks that differ.
-fn rising(count: u16, step: u32) -> Vec<Vec<u8>> {
+pub fn rising(count: u16, step: u32) -> Vec<Vec<u8>> {
     let each = |i: u16| VehicleWords {
         class: (i % 2).to_le_bytes()[0],
         track: 100 + 60 * (i % 4),
@@ -97,7 +97,7 @@ fn on_kinds(script: &mut Script) {
         script.yard(&yard, 7);
     }
     script.title("a yard on 64 members");
-    script.survey(&survey_of(&full()));
+    script.survey(&survey_of(&in_turn(64)));
     script.yard(&yard, 7);
 }
 
