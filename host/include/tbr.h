@@ -9,8 +9,9 @@
  * overlaps neither file. The functions read the files, write inside the list only, keep no
  * pointer, always return, and share no state: any number of threads may call them.
  *
- * A survey file is of version 1 or 2, and so is a vehicle file: in version 1 the weight of an axle
- * has two bytes, up to 60,000 kgf, in version 2 four, up to 200,000. A vehicle rates alike in both.
+ * A survey file has 1 to 255 members, a vehicle file 1 to 16 axles, and each is of version 1 or 2:
+ * in version 1 the weight of an axle has two bytes, up to 60,000 kgf, in version 2 four, up to
+ * 200,000. A vehicle rates alike in both.
  */
 #ifndef TBR_H
 #define TBR_H
@@ -67,7 +68,8 @@ struct tbr_numbers tbr_judge(const uint8_t *survey, size_t survey_length,
  * The same, and fills the list: permitted load and vehicle load of member 1, then of member 2, and
  * so on; entries beyond are kept. A member passes where its vehicle load is at most its permitted
  * load. Refused besides, with number 14 and place 0: a list shorter than two entries a member, of
- * which a survey has as many as its byte 5 says. Where anything is refused the list is as it was.
+ * which a survey has as many as its byte 5 says; 510 entries are enough for any. Where anything is
+ * refused the list is as it was.
  */
 struct tbr_loads tbr_member_loads(const uint8_t *survey, size_t survey_length,
                                   const uint8_t *vehicle, size_t vehicle_length,

@@ -56,7 +56,10 @@ fn each_number_of_a_survey() {
         assert_eq!(survey_refusal(&changed(SURVEY, 3, version)), (2, 0));
     }
     assert_eq!(check_survey(&changed(SURVEY, 3, 2)), Ok(()));
-    assert_eq!(survey_refusal(&changed(SURVEY, 5, 65)), (3, 0));
+    assert_eq!(survey_refusal(&changed(SURVEY, 5, 0)), (3, 0));
+    for count in [2, 64, 65, 255] {
+        assert_eq!(survey_refusal(&changed(SURVEY, 5, count)), (1, 0));
+    }
     let [kind, species, section, rot, unused] = [6, 8, 20, 24, 14];
     assert_eq!(survey_refusal(&changed(SURVEY, kind, 8)), (4, 1));
     assert_eq!(survey_refusal(&changed(SURVEY, species, 9)), (5, 1));

@@ -4,6 +4,7 @@ mod common;
 
 use common::seed;
 use reference::generate::*;
+use reference::layout::MOST_MEMBERS;
 use reference::reader;
 use tbr::file::{self, Contents, Survey};
 use tbr::form::{
@@ -25,7 +26,8 @@ fn files_go_to_text_and_back() {
     let mut random = Random::new(seed);
     for i in 0..2000 {
         let spread = if i % 2 == 0 { Spread::Wide } else { Spread::Usual };
-        let (members, axles) = (1 + random.below(64), 1 + random.below(16));
+        let most = if i % 10 == 0 { MOST_MEMBERS } else { 32 };
+        let (members, axles) = (1 + random.below(most), 1 + random.below(16));
         let survey = survey_file(&mut random, spread, members);
         let version = VERSIONS[i / 2 % 2];
         let vehicle = vehicle_bytes(&vehicle_of(&mut random, version, spread, axles));
@@ -237,8 +239,8 @@ fn errors_of_the_heading() {
 #[test]
 fn errors_of_counts() {
     let survey = |count| format!("survey\n{}", format!("{STRINGER}\n").repeat(count));
-    assert!(read(survey(64).as_bytes()).is_ok());
-    assert_eq!(error(&survey(65)), "line 66, member: a file holds at most 64");
+    assert!(read(survey(255).as_bytes()).is_ok());
+    assert_eq!(error(&survey(256)), "line 257, member: a file holds at most 255");
     let heading = "vehicle, class lorry, track 190 cm";
     let others = |count| "axle, weight 5 kgf, distance 90 cm\n".repeat(count);
     let vehicle = |count: usize| format!("{heading}\n{AXLES}\n{}", others(count - 2));
@@ -393,10 +395,10 @@ fn all_faults_of_a_vehicle_at_once() {
 /// Faults in more lines than a file holds: each of them, and that there are too many.
 #[test]
 fn faults_beyond_the_last_place() {
-    let text = format!("survey\n{}{}", format!("{STRINGER}\n").repeat(63), "strut\n".repeat(3));
+    let text = format!("survey\n{}{}", format!("{STRINGER}\n").repeat(254), "strut\n".repeat(3));
     let faults = faults(text.as_bytes());
     let lines: Vec<&str> = faults.lines().map(|fault| fault.split(':').next().unwrap()).collect();
-    assert_eq!(lines, ["line 65, kind", "line 66, member", "line 66, kind", "line 67, kind"]);
+    assert_eq!(lines, ["line 256, kind", "line 257, member", "line 257, kind", "line 258, kind"]);
 }
 
 /// Without its section it is not known which fields a line has: only the section is missed, and

@@ -33,7 +33,7 @@ pub const FIRST_VERSION: u16 = 1;
 pub const ORDERED_FROM: u16 = 2;
 
 const SURVEY: Layout =
-    Layout { mark: b"TBR", last_version: ORDERED_FROM, record: "member", most: 64 };
+    Layout { mark: b"TBR", last_version: ORDERED_FROM, record: "member", most: 255 };
 const VEHICLE: Layout =
     Layout { mark: b"TBV", last_version: HEAVY.version, record: "axle", most: 16 };
 
