@@ -6,18 +6,18 @@ mod common;
 use common::scripts::*;
 use common::seed;
 use reference::generate::*;
-use reference::layout::Words;
-use reference::script::{Script, SPACE};
+use reference::layout::{Words, MOST_MEMBERS};
+use reference::script::{Script, MOST_ENTRIES, SPACE};
 
 /// A round of calls is shorter than this: a survey, twelve calls and what is between them.
-const LONGEST_ROUND: usize = 60_000;
+const LONGEST_ROUND: usize = 100_000;
 
 /// Two surveys of one bridge: mostly small, as brute force is dear; half of them in order.
 fn two_surveys(random: &mut Random) -> [Vec<Words>; 2] {
     let members = 1 + random.below(4);
-    let first = match random.below(60) {
+    let first = match random.below(180) {
         0 => full_survey(random, Spread::Wide),
-        1..=20 => survey(random, Spread::Wide, members),
+        1..=60 => survey(random, Spread::Wide, members),
         _ => bearing_survey(random, members),
     };
     let second = worn(random, &first);
@@ -103,16 +103,17 @@ fn thousands_of_two_surveys() {
     scripts().agree();
 }
 
-/// Two surveys of 64 members refused in each way at each place.
+/// Two of the largest surveys refused at each place, in a third of the ways by turns.
 #[test]
 fn damage_at_every_place() {
     let seed = seed(0xbe20_1002);
     let mut random = Random::new(seed);
     let vehicle = vehicle_bytes(&vehicle(&mut random, Spread::Usual, 1));
-    for pairs in damaged_pairs(&mut random).chunks(60) {
+    let pairs: Vec<DamagedPair> = damaged_pairs(&mut random).into_iter().step_by(3).collect();
+    for pairs in pairs.chunks(30) {
         let mut script = Script::default();
         script.vehicle(&vehicle);
-        pairs.iter().for_each(|pair| script.between(&pair.first, &pair.second, 128));
+        pairs.iter().for_each(|pair| script.between(&pair.first, &pair.second, 9));
         assert!(script.bytes.len() < SPACE, "{} bytes", script.bytes.len());
         agree(&script, &format!("TBR_SEED={seed}"));
     }
@@ -123,11 +124,11 @@ fn damage_at_every_place() {
 fn full_surveys() {
     let seed = seed(0xbe20_1003);
     let (mut random, mut script) = (Random::new(seed), Script::default());
-    while script.bytes.len() < 200_000 {
-        let first = in_order(&bearing_survey(&mut random, 64));
+    while script.bytes.len() < 400_000 {
+        let first = in_order(&bearing_survey(&mut random, MOST_MEMBERS));
         let second = worn(&mut random, &first);
         script.vehicle(&vehicle_bytes(&vehicle_near(&mut random, &first, &second)));
-        let entries = *random.pick(&[127, 128, 129, 160]);
+        let entries = *random.pick(&[509, 510, 511, MOST_ENTRIES]);
         let [first, second] = files(&mut random, &first, &second);
         script.between(&first, &second, entries);
     }

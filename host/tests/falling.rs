@@ -140,7 +140,7 @@ fn worse_files_never_rate_better() {
     assert!(lower > 1000 && turned > 100, "{lower} figures fell, {turned} verdicts turned");
 }
 
-/// The largest files: 64 members, axles up to 16.
+/// The largest files: 255 members, axles up to 16.
 #[test]
 fn worse_full_files_never_rate_better() {
     const FULL: u64 = 300;
@@ -284,7 +284,7 @@ fn worse_matched_files_never_rate_better() {
     assert!(seen.other_matches > 2000, "{} matches beside the partners", seen.other_matches);
 }
 
-/// The largest surveys: up to 64 members that bear something, some of them added.
+/// Large surveys and the largest: members that bear something, some of them added.
 #[test]
 fn worse_matched_full_files_never_rate_better() {
     const FULL: u64 = 400;
@@ -292,7 +292,7 @@ fn worse_matched_full_files_never_rate_better() {
     let mut seen = Seen::default();
     for seed in start..start + FULL {
         let mut random = Random::new(seed);
-        let count = *random.pick(&[40, 63, 64]);
+        let count = *random.pick(&[40, 64, 180, 254, MOST_MEMBERS]);
         let members = bearing_survey(&mut random, count);
         matched_pair(&mut seen, &mut random, &members, 24, seed);
     }

@@ -6,7 +6,7 @@ mod common;
 use common::scripts::*;
 use common::{programs, seed};
 use reference::generate::*;
-use reference::layout::LAST_KIND;
+use reference::layout::{LAST_KIND, MOST_MEMBERS};
 use reference::script::{Script, GAUGE_BYTES, SPACE};
 
 /// A round of calls is shorter than this: what is loaded, and some sixty calls.
@@ -19,7 +19,7 @@ fn gauge(script: &mut Script, Gauge { place, readings }: Gauge) {
 /// A survey and a vehicle, of which one or both may be missing; gauges on them, and between them
 /// every other call.
 fn round(random: &mut Random, script: &mut Script) {
-    let members = if random.once_in(40) { 64 } else { 1 + random.below(4) };
+    let members = if random.once_in(80) { MOST_MEMBERS } else { 1 + random.below(4) };
     let survey = tested_survey(random, members);
     let vehicle = vehicle(random, Spread::Usual, 1);
     let missing = random.below(24);

@@ -7,10 +7,11 @@ mod common;
 use common::scripts::*;
 use common::{programs, seed};
 use reference::generate::*;
+use reference::layout::MOST_MEMBERS;
 use reference::script::{Script, MOST_BYTES, SPACE};
 
 /// A round of calls is shorter than this: at most twelve, and a full survey may be loaded in each.
-const LONGEST_ROUND: usize = 30_000;
+const LONGEST_ROUND: usize = 40_000;
 
 fn join(script: &mut Script, Join { first, second, room }: &Join) {
     script.join(first, second, *room);
@@ -77,20 +78,21 @@ fn agree_on(joins: &[Join], what: &str) {
     let mut script = Script::default();
     for call in joins {
         join(&mut script, call);
-        if script.bytes.len() + 5000 > SPACE {
+        if script.bytes.len() + LONGEST_ROUND > SPACE {
             agree(&std::mem::take(&mut script), what);
         }
     }
     agree(&script, what);
 }
 
-/// Two surveys of 64 members refused in each way at each place, headers and short outputs.
+/// Two of the largest surveys refused at each place, in a third of the ways by turns; headers and
+/// short outputs.
 #[test]
 fn damage_at_every_place() {
     let seed = seed(0x101a_1002);
     let damaged = damaged_joins(&mut Random::new(seed));
-    assert!(damaged.len() > 1200, "{} joins", damaged.len());
-    let joins: Vec<Join> = damaged.into_iter().map(|damaged| damaged.join).collect();
+    let joins: Vec<Join> = damaged.into_iter().step_by(3).map(|damaged| damaged.join).collect();
+    assert!(joins.len() > 1200, "{} joins", joins.len());
     agree_on(&joins, &format!("TBR_SEED={seed}"));
 }
 
@@ -119,13 +121,13 @@ fn full_surveys() {
     let (mut random, mut script) = (Random::new(seed), Script::default());
     script.vehicle(&vehicle_bytes(&vehicle_of(&mut random, 1, Spread::Usual, 1)));
     for turn in 0..24 {
-        let Join { first, second, .. } = sound_join(&mut random, turn, 64);
-        let least = survey_length(64);
+        let Join { first, second, .. } = sound_join(&mut random, turn, MOST_MEMBERS);
+        let least = survey_length(MOST_MEMBERS);
         let room = [least - 1, least, least + 1, MOST_BYTES][turn % 4];
         script.join(&first, &second, room);
         if turn % 8 == 1 {
             script.survey(&reference::join(&first, &second, least).expect("a join that is taken"));
-            script.judge(128);
+            script.judge(2 * MOST_MEMBERS);
         }
     }
     agree(&script, &format!("TBR_SEED={seed}"));

@@ -4,6 +4,7 @@ mod common;
 
 use common::{programs, seed};
 use reference::generate::*;
+use reference::layout::MOST_MEMBERS;
 use reference::lines;
 
 /// What the program prints for this standard input.
@@ -43,7 +44,8 @@ fn hundreds_of_bridges() {
     let mut random = Random::new(seed);
     for i in 0..300 {
         let spread = if i % 2 == 0 { Spread::Wide } else { Spread::Usual };
-        let (members, axles) = (1 + random.below(64), 1 + random.below(16));
+        let most = if i % 5 == 0 { MOST_MEMBERS } else { 16 };
+        let (members, axles) = (1 + random.below(most), 1 + random.below(16));
         let survey = survey_file(&mut random, spread, members);
         let vehicle = vehicle_of(&mut random, VERSIONS[i / 2 % 2], spread, axles);
         let vehicle = vehicle_bytes(&vehicle);
@@ -61,13 +63,15 @@ fn refused_files() {
     }
 }
 
-/// Records out of order in each way, versions that no file has, and of a vehicle every axle
+/// Records out of order in each way and at most places, versions that no file has, and of a vehicle every axle
 /// damaged, lengths that its version does not have and weights that version 2 does not.
 #[test]
 fn refused_orders_versions_and_vehicles() {
     let seed = seed(0xb41_0005);
     let mut random = Random::new(seed);
-    let of_order = [misplaced_surveys(&mut random), wrong_versions(&mut random)];
+    // Two surveys for each way and place stand in a row: the fifth is of the one sort and the other.
+    let misplaced = misplaced_surveys(&mut random).into_iter().step_by(5).collect();
+    let of_order = [misplaced, wrong_versions(&mut random)];
     let of_vehicles = [damaged_vehicles(&mut random), wrong_lengths(&mut random)];
     let of_weight = [wrong_weights(&mut random)];
     let all = of_order.into_iter().chain(of_vehicles).chain(of_weight);

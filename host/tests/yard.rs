@@ -67,9 +67,9 @@ fn expected(survey: &[u8], yard: &[u8], entries: usize) -> (Numbers, Vec<u64>) {
 /// Mostly small surveys and yards, as brute force is dear.
 fn input(random: &mut Random) -> (Vec<u8>, Vec<u8>) {
     let spread = if random.once_in(3) { Spread::Wide } else { Spread::Usual };
-    let survey = match random.below(200) {
+    let survey = match random.below(800) {
         0 => full_survey_file(random, spread),
-        1..=9 => some_damage(random).0,
+        1..=39 => some_damage(random).0,
         _ => {
             let members = 1 + random.below(3);
             survey_file(random, spread, members)

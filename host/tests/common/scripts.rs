@@ -17,9 +17,10 @@ pub fn spread(random: &mut Random) -> Spread {
 /// Mostly small surveys of either version, as brute force is dear; now and then a refused one.
 pub fn load_survey(random: &mut Random, script: &mut Script) {
     let spread = spread(random);
-    let bytes = match random.below(24) {
-        0 => some_damage(random).0,
-        1 => full_survey_file(random, spread),
+    let bytes = match random.below(96) {
+        0..=3 => some_damage(random).0,
+        4 => full_survey_file(random, spread),
+        5 => survey_file(random, spread, 65),
         _ => {
             let members = 1 + random.below(4);
             survey_file(random, spread, members)
