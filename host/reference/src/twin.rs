@@ -9,6 +9,7 @@ use crate::layout::CLOSE_STRINGER;
 use crate::permitted::SPECIES;
 use crate::reader::{self, Axle, Member, Refused, Vehicle};
 use crate::section::log_modulus;
+use crate::yard::vehicles;
 
 /// Thirty times W, which is a whole number of sixths or tenths of a cm³.
 fn modulus_in_thirtieths(m: &Member) -> u64 {
@@ -204,12 +205,23 @@ fn bridge(members: Vec<Rated>) -> Judged {
     Judged { figure, governing, passes: margin >= 0, margin, members }
 }
 
+fn judge_members(members: &[Member], vehicle: &Vehicle) -> Judged {
+    let behind = offsets(&vehicle.axles);
+    bridge(members.iter().map(|member| rate_with(member, vehicle, &behind)).collect())
+}
+
 /// The judgement, fast.
 pub fn judge(survey: &[u8], vehicle: &[u8]) -> Result<Judged, Refused> {
     let members = reader::survey(survey)?;
     let vehicle = reader::vehicle(vehicle)?;
-    let behind = offsets(&vehicle.axles);
-    Ok(bridge(members.iter().map(|member| rate_with(member, &vehicle, &behind)).collect()))
+    Ok(judge_members(&members, &vehicle))
+}
+
+/// The judgements of a yard's vehicles, fast: the survey is read once.
+pub fn yard(survey: &[u8], yard: &[u8]) -> Result<Vec<Judged>, Refused> {
+    let members = reader::survey(survey)?;
+    let vehicles = vehicles(yard)?;
+    Ok(vehicles.iter().map(|vehicle| judge_members(&members, vehicle)).collect())
 }
 
 #[cfg(test)]

@@ -57,6 +57,23 @@ fn the_twin_agrees_on_every_crescent() {
     }
 }
 
+/// A yard's judgements are those of each vehicle alone; a faulty yard has its own refusal.
+#[test]
+fn the_twin_judges_yards() {
+    let mut random = Random::new(0x7719);
+    for (members, vehicles) in [(1, 32), (3, 5), (MOST_MEMBERS, 4)] {
+        let survey = survey_file(&mut random, Spread::Usual, members);
+        let vehicles = yard(&mut random, Spread::Usual, vehicles, 4);
+        let alone: Vec<_> =
+            vehicles.iter().map(|words| judge(&survey, &vehicle_bytes(words)).unwrap()).collect();
+        assert_eq!(twin::yard(&survey, &yard_bytes(&vehicles)), Ok(alone));
+        for DamagedYard { yard, number, place } in damaged_yards(&mut random) {
+            let refused = twin::yard(&survey, &yard).expect_err("a damaged yard");
+            assert_eq!((refused.number, refused.place), (number, place));
+        }
+    }
+}
+
 /// A closely spaced log stringer over boards: their count, thickness and width.
 fn close_stringer(spacing: u16, [boards, thickness, width]: [u16; 3]) -> Words {
     let mut words: Words = [0; 16];
