@@ -4,6 +4,7 @@
 mod cli;
 
 use cli::{sample, Folder};
+use reference::generate::{full_survey, survey_bytes, Random, Spread};
 use std::path::{Path, PathBuf};
 use std::process::Command;
 
@@ -81,6 +82,7 @@ fn a_c_program_gets_the_same() {
     let trailer = sample("transformer-trailer.tbv");
     let both_versions = joined(&[&trailer, &vehicle, &trailer]);
     let cut = both_versions[..both_versions.len() - 1].to_vec();
+    let longest = survey_bytes(&full_survey(&mut Random::new(12), Spread::Usual));
     let all = [
         (&survey, &vehicle, &yard),
         (&vehicle, &vehicle, &yard),
@@ -90,9 +92,10 @@ fn a_c_program_gets_the_same() {
         (&out_of_order, &vehicle, &yard),
         (&survey, &trailer, &both_versions),
         (&survey, &cut, &cut),
+        (&longest, &vehicle, &yard),
     ];
     for (survey, vehicle, yard) in all {
-        for entries in [0, fits - 1, fits, fits + 1, fits + 3] {
+        for entries in [0, fits - 1, fits, fits + 1, fits + 3, 509, 510] {
             let files = [("survey", survey), ("vehicle", vehicle), ("yard", yard)];
             let paths = files.map(|(name, bytes)| folder.file(name, bytes));
             let run = Command::new(&program).args(paths).arg(entries.to_string()).output().unwrap();
