@@ -10,7 +10,7 @@ use reference::layout::{Words, MOST_MEMBERS};
 use reference::script::{Script, MOST_ENTRIES, SPACE};
 
 /// A round of calls is shorter than this: a survey, twelve calls and what is between them.
-const LONGEST_ROUND: usize = 100_000;
+const LONGEST_ROUND: usize = 160_000;
 
 /// Two surveys of one bridge: mostly small, as brute force is dear; half of them in order.
 fn two_surveys(random: &mut Random) -> [Vec<Words>; 2] {
@@ -103,14 +103,13 @@ fn thousands_of_two_surveys() {
     scripts().agree();
 }
 
-/// Two of the largest surveys refused at each place, in a third of the ways by turns.
+/// Two of the largest surveys refused in each way at each place.
 #[test]
 fn damage_at_every_place() {
     let seed = seed(0xbe20_1002);
     let mut random = Random::new(seed);
     let vehicle = vehicle_bytes(&vehicle(&mut random, Spread::Usual, 1));
-    let pairs: Vec<DamagedPair> = damaged_pairs(&mut random).into_iter().step_by(3).collect();
-    for pairs in pairs.chunks(30) {
+    for pairs in damaged_pairs(&mut random).chunks(30) {
         let mut script = Script::default();
         script.vehicle(&vehicle);
         pairs.iter().for_each(|pair| script.between(&pair.first, &pair.second, 9));

@@ -85,14 +85,13 @@ fn agree_on(joins: &[Join], what: &str) {
     agree(&script, what);
 }
 
-/// Two of the largest surveys refused at each place, in a third of the ways by turns; headers and
-/// short outputs.
+/// Two of the largest surveys refused in each way at each place, headers and short outputs.
 #[test]
 fn damage_at_every_place() {
     let seed = seed(0x101a_1002);
     let damaged = damaged_joins(&mut Random::new(seed));
-    let joins: Vec<Join> = damaged.into_iter().step_by(3).map(|damaged| damaged.join).collect();
-    assert!(joins.len() > 1200, "{} joins", joins.len());
+    let joins: Vec<Join> = damaged.into_iter().map(|damaged| damaged.join).collect();
+    assert!(joins.len() > 5000, "{} joins", joins.len());
     agree_on(&joins, &format!("TBR_SEED={seed}"));
 }
 

@@ -10,7 +10,7 @@ use reference::layout::heaviest;
 use reference::script::{Script, SPACE};
 
 /// A round of calls is shorter than this: two files, ten yards and what is between them.
-const LONGEST_ROUND: usize = 40_000;
+const LONGEST_ROUND: usize = 50_000;
 
 /// A sound yard or a damaged one, with a list that holds it, just not, or much more.
 fn judge_yard(random: &mut Random, script: &mut Script) {
