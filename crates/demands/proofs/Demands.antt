@@ -63,6 +63,8 @@ use Rattle.demands.proofs.History.{survey-stays, vehicle-stays, survey-
 use Rattle.session.proofs.Loads.{no-refusal, never-both, survey-read, vehicle-read, survey-load, vehicle-load, survey-refused, vehicle-refused, other-survey}
 use Rattle.session.proofs.State.{valid-new, judge-ready, no-survey-fault, no-vehicle-fault, no-place-fault}
 use Rattle.demands.proofs.Answered.{all-answers}
+use Rattle.member.proofs.Counts.{count-byte-holds}
+use Rattle.surveys.proofs.Longer.{longer-trestles}
 use Rattle.gauge.proofs.Claims.{loses-nothing}
 use Rattle.demands.proofs.GaugeLaws.{gauge-answered, gauge-taken}
 use Rattle.demands.proofs.ReadingsLaws.{between-answered, between-taken, between-bounds}
@@ -231,6 +233,8 @@ demand2 =
       joined-loads = λ s first second out n w. allowed-loads s (joinedSurvey first second out n) (join-taken first second out .files n w .allowed);
       gauged = gauge-taken;
       loses-nothing = loses-nothing;
+      count-byte-holds = count-byte-holds;
+      longer-trestles = longer-trestles;
     }
 
 -- both loads of two files: where they are taken the survey is allowed, and is what the session then holds

@@ -16,6 +16,8 @@ use Rattle.member.specs.declared.record.Member.{Member}
 use Rattle.member.specs.declared.record.Vehicle.{Vehicle}
 use Rattle.surveys.specs.Allowed.{AllowedSurveyFile}
 use Rattle.vehicles.specs.Allowed.{AllowedVehicleFile}
+use Rattle.member.specs.Counts.{CountByteHolds}
+use Rattle.surveys.specs.Longer.{LongerTrestles}
 use Rattle.surveys.specs.Refused.{SurveyRefusal}
 use Rattle.vehicles.specs.Refused.{VehicleRefusal}
 use Rattle.surveys.specs.SurveyFile.{recordsOf, surveyOf}
@@ -135,6 +137,10 @@ pub record Demand2 : Type 0 where
   -- that is to be shown"
   pub gauged : (s : Session) (place : ℕ) (r : Readings) → GaugeTaken s place r
   pub loses-nothing : LosesNothing
+  -- request 12/13: "The count byte holds it and old files read as before. A file of more than 64 records, once refusal 3, is taken where it is
+  -- otherwise good" (`survey-taken`, with the new limit) "and else gets its own refusal; a count of 0 still gives 3."
+  pub count-byte-holds : CountByteHolds
+  pub longer-trestles : LongerTrestles
 
 -- Demand 3.
 pub record Demand3 : Type 0 where

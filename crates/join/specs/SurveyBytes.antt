@@ -1,5 +1,5 @@
 -- The bytes of a survey's file of version 1. Document 01, 'Files': "Little-endian. Survey: the letters TBR, u16 version 1, u8 count 1..64, then
--- per member 16 u16".
+-- per member 16 u16"; by document 02, request 12/13, up to 255.
 use Prim.Native.Nat.{ℕ}
 use mathlib.Core.List.{List, [], _∷_, _++_}
 use Rattle.member.specs.Fields.{FIELDS, field}

@@ -1,4 +1,5 @@
 pub mod Allowed
+pub mod Counts
 pub mod Divisors
 pub mod EachKind
 pub mod Exact

@@ -71,7 +71,7 @@ LAST-KIND = 7
 abbrev pub LAST-CODE : ℕ
 LAST-CODE = 5
 
--- the most members of a survey, and the most axles of a vehicle
+-- the most members of a survey: document 01, 1..64, by document 02, request 12/13, "from 64 to 255"; and the most axles of a vehicle
 abbrev pub MOST-MEMBERS : ℕ
 MOST-MEMBERS = 255
 

@@ -1,4 +1,6 @@
 pub mod Fields
+pub mod Counts
+pub mod Blank
 pub mod Format
 pub mod Formula
 pub mod PermittedLoad

@@ -1,4 +1,5 @@
--- A survey's members, and what a survey may hold. Document 01, 'Files': "Survey: .. u8 count 1..64, then per member 16 u16".
+-- A survey's members, and what a survey may hold. Document 01, 'Files': "Survey: .. u8 count 1..64, then per member 16 u16"; by document 02,
+-- request 12/13, up to 255.
 use Prim.Native.Nat.{ℕ, _<_}
 use mathlib.Core.List.{List, []}
 use lib.ListN.{length, take, getD}

@@ -12,7 +12,8 @@ use Rattle.rating.specs.Judgement.{ratingOf, judgementOf, written}
 use Rattle.rating.specs.Surveyed.{AllowedSurvey, membersOf, memberAt}
 use Rattle.member.specs.declared.record.Member.{Member}
 use Rattle.files.specs.Reading.{_unless_, firstOf, isIn}
-use Rattle.surveys.specs.SurveyFile.{readSurvey, blankSurvey}
+use Rattle.member.specs.Blank.{blankSurvey}
+use Rattle.surveys.specs.SurveyFile.{readSurvey}
 use Rattle.vehicles.specs.VehicleFile.{readVehicle, blankVehicle}
 use Rattle.files.specs.declared.Reading.{Reading}
 use Rattle.files.specs.declared.Reading.the-variants.{Taken, Refused}

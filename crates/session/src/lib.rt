@@ -15,6 +15,7 @@ pub mod yard;
 
 use files::Reading;
 use files::Refusal;
+use member::blank::blank_survey;
 use member::record::MOST_MEMBERS;
 use member::record::Survey;
 use member::record::Vehicle;
@@ -22,7 +23,6 @@ use rating::judging;
 use rating::judging::Judgement;
 use rating::judging::Rating;
 use rating::judging::Verdict;
-use surveys::file::blank_survey;
 use surveys::file::read_survey;
 use vehicles::file::blank_vehicle;
 use vehicles::file::read_vehicle;

@@ -5,3 +5,4 @@ mod Sequences
 mod OneOrder
 pub mod Refusals
 pub mod Surveys
+pub mod Longer

@@ -8,11 +8,12 @@ use native.Mathlib.Omega.{arith}
 use lib.ListN.{length, getD, replicate}
 use Rattle.member.specs.declared.record.Member.{Member}
 use Rattle.member.specs.declared.record.Survey.{Survey}
+use Rattle.member.specs.Blank.{blankMember, blankSurvey}
 use Rattle.member.specs.Fields.{MOST-MEMBERS, FIELDS, field}
 use Rattle.member.specs.Format.{_‥_, In, AllowedMember}
 use Rattle.files.specs.Words.{wordAt}
 use Rattle.files.specs.Reading.{firstFault, orElse}
-use Rattle.surveys.specs.SurveyFile.{SURVEY-HEADER, RECORD, SURVEY-VERSIONS, countOf, recordAt, surveyHeader, memberFault, recordFaults, sequenceFault, sequenceAnswer, surveyAnswer, blankMember, blankSurvey, surveyOf, surveyBy, readSurvey}
+use Rattle.surveys.specs.SurveyFile.{SURVEY-HEADER, RECORD, SURVEY-VERSIONS, countOf, recordAt, surveyHeader, memberFault, recordFaults, sequenceFault, sequenceAnswer, surveyAnswer, surveyOf, surveyBy, readSurvey}
 use Rattle.surveys.specs.Allowed.{AllowedSurveyFile}
 use Rattle.files.specs.Refused.{Headed}
 use Rattle.surveys.specs.Refused.{FirstRecord, SurveyRefusal}

@@ -9,7 +9,8 @@ use Rattle.surveys.specs.Sequence.{InSequence}
 use Rattle.member.specs.Fields.{MOST-MEMBERS}
 use Rattle.surveys.specs.SurveyFile.{SURVEY-HEADER, RECORD, SURVEY-VERSIONS, SEQUENCE-FROM, countOf, recordAt}
 
--- "Survey: the letters TBR, u16 version 1, u8 count 1..64, then per member 16 u16"; and version 2, document 02, request 8/13
+-- "Survey: the letters TBR, u16 version 1, u8 count 1..64, then per member 16 u16"; from document 02 version 2, request 8/13, and counts up to
+-- 255, request 12/13
 pub record AllowedSurveyFile (bytes : List ℕ) : Type 0 where
   pub mark : take 3 bytes ≡ 84 ∷ 66 ∷ 82 ∷ []
   pub version : In SURVEY-VERSIONS (versionOf bytes)

@@ -3,3 +3,4 @@ pub mod SurveyFile
 pub mod Allowed
 pub mod OneOrder
 pub mod Refused
+pub mod Longer

@@ -1,5 +1,5 @@
 -- Reading a survey file, with the tests in document 01's order. 'Files': "Survey: the letters TBR, u16 version 1, u8 count
--- 1..64, then per member 16 u16". Version 2 and refusal 16 from document 02, request 8/13.
+-- 1..64, then per member 16 u16". From document 02 version 2 and refusal 16, request 8/13, and counts up to 255, request 12/13.
 use Prim.Native.Nat.{ℕ, _+_, _-_, _*_}
 use mathlib.Core.List.{List, [], _∷_, _++_}
 use mathlib.Core.Bool.{Bool, not, _&&_, _||_}
@@ -7,6 +7,7 @@ use lib.ListN.{replicate}
 use lib.Dec.{eqb, leb}
 use Rattle.member.specs.declared.record.Member.{Member}
 use Rattle.member.specs.declared.record.Survey.{Survey}
+use Rattle.member.specs.Blank.{blankMember, blankSurvey}
 use Rattle.member.specs.Fields.{KIND, SPECIES, SPAN, CODE, MU-A, MU-B, FIELDS, LAST-KIND, MOST-MEMBERS, field}
 use Rattle.member.specs.Format.{Range, _‥_, used, rangeOf, suits}
 use Rattle.files.specs.Words.{byteAt, words, each}
@@ -95,12 +96,6 @@ sequenceAnswer bytes n = choose (leb SEQUENCE-FROM (versionOf bytes)) (firstFaul
 unfoldable pub surveyAnswer : List ℕ → Reading
 surveyAnswer bytes =
     orElse (firstFault 0 (surveyHeader bytes ∷ recordFaults bytes (countOf bytes))) (sequenceAnswer bytes (countOf bytes))
-
-abbrev pub blankMember : Member
-blankMember = record { fields = replicate FIELDS 0 }
-
-abbrev pub blankSurvey : Survey
-blankSurvey = record { count = 0; members = replicate MOST-MEMBERS blankMember }
 
 -- the file's records, and blank ones after them
 abbrev pub surveyOf : List ℕ → Survey

@@ -12,6 +12,8 @@ use files::header::header_fault;
 use files::limits::Limits;
 use files::words::wide;
 use files::words::words;
+use member::blank::blank_member;
+use member::blank::blank_survey;
 use member::record::FIELDS;
 use member::record::MOST_MEMBERS;
 use member::record::Member;
@@ -22,8 +24,9 @@ ghost use Prim.Native.Nat.{_+_, _-_, _*_, _≤_, _<_};
 ghost use lib.ListN.{length, replicate};
 ghost use Rattle.files.specs.Words.{each};
 ghost use Rattle.files.specs.Reading.{firstFault, orElse};
+ghost use Rattle.member.specs.Blank.{blankMember, blankSurvey};
 ghost use Rattle.member.specs.Fields.{MOST-MEMBERS};
-ghost use Rattle.surveys.specs.SurveyFile.{SURVEY-HEADER, RECORD, countOf, recordAt, recordFaults, sequenceAnswer, blankMember, blankSurvey, readSurvey};
+ghost use Rattle.surveys.specs.SurveyFile.{SURVEY-HEADER, RECORD, countOf, recordAt, recordFaults, sequenceAnswer, readSurvey};
 
 // The versions of a survey are 1 and 2.
 const LAST_VERSION: u32 = 2;
@@ -98,14 +101,6 @@ fn records_answer(bytes: &[u8], count: usize) -> Reading
     }
 }
 
-fn blank_member() -> Member
-    ensures { λ r. ⌜ r ≡ blankMember ⌝ }
-{
-    Member {
-        fields: [0u16; FIELDS],
-    }
-}
-
 // The records, and blank ones after them.
 fn members_of(bytes: &[u8], count: usize) -> [Member; MOST_MEMBERS]
     requires { ⌜ (count ≤ MOST-MEMBERS) × (SURVEY-HEADER + RECORD * count ≤ length (now bytes)) ⌝ }
@@ -120,17 +115,6 @@ fn members_of(bytes: &[u8], count: usize) -> [Member; MOST_MEMBERS]
         i += 1;
     }
     members
-}
-
-// No members.
-pub fn blank_survey() -> Survey
-    ensures { λ r. ⌜ r ≡ blankSurvey ⌝ }
-{
-    let blank = blank_member();
-    Survey {
-        count: 0,
-        members: [blank; MOST_MEMBERS],
-    }
 }
 
 fn refused(answer: Reading) -> SurveyRead

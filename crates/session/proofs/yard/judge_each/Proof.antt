@@ -124,9 +124,9 @@ loop-again c =
     let a = start .args in (
       omega arith,
       rw (c .with-answer .ensures, c .before .judged-by .ensures)
-      (subst (λ (n : Next). (j : Judgement) → j ≡ judgementOf (take (n .members) (a .session .survey .members)) (n .vehicle) → Ran (a .session) (a .yard .now) (at .loop .i + 1) (withAnswer (at .loop .run) (judgedBy (n .answer) j) (at .loop .i) (n .end)))
-      (sym (next .next-vehicle .ensures)) (ran-next _ _ _ _ (at .loop .inv .1) (start .pre .0 .survey (start .pre .1)) (omega (arith, start .pre .3)))
-      _ (rw all at (last .inv .1))),
+          (subst (λ (n : Next). (j : Judgement) → j ≡ judgementOf (take (n .members) (a .session .survey .members)) (n .vehicle) → Ran (a .session) (a .yard .now) (at .loop .i + 1) (withAnswer (at .loop .run) (judgedBy (n .answer) j) (at .loop .i) (n .end)))
+          (sym (next .next-vehicle .ensures)) (ran-next _ _ _ _ (at .loop .inv .1) (start .pre .0 .survey (start .pre .1)) (omega (arith, start .pre .3)))
+          _ (rw all at (last .inv .1))),
     )
 
 returns : tie.Need-returns Inv-loop2 μ-loop2 Inv-loop μ-loop

@@ -5,8 +5,9 @@ use mathlib.Core.List.{_++_}
 use native.Mathlib.Omega.{arith}
 use lib.ListN.{replicate}
 use Rattle.files.specs.Words.{each}
+use Rattle.member.specs.Blank.{blankMember}
 use Rattle.member.specs.Fields.{MOST-MEMBERS}
-use Rattle.surveys.specs.SurveyFile.{recordAt, blankMember}
+use Rattle.surveys.specs.SurveyFile.{recordAt}
 use Rattle.files.proofs.Each.{store-each}
 use Rattle.surveys.proofs.file.members_of.Statement.{statement}
 use Rattle.surveys.proofs.file.members_of.Tie as tie

@@ -1,8 +1,8 @@
 -- `blank_survey` meets its contract: the blank members are the callee's.
 use mathlib.Core.Path.{refl}
 use borrow.Author.Needs.{needs}
-use Rattle.surveys.proofs.file.blank_survey.Statement.{statement}
-use Rattle.surveys.proofs.file.blank_survey.Tie as tie
+use Rattle.member.proofs.blank.blank_survey.Statement.{statement}
+use Rattle.member.proofs.blank.blank_survey.Tie as tie
 
 blank-member-requires : tie.Need-blank-member-requires
 blank-member-requires c κs = search needs
