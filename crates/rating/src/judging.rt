@@ -1,7 +1,6 @@
 // A member's rating, and the judgement of a bridge from the ratings of its members.
 ghost use mathlib.Core.Path.{_≡_};
 ghost use mathlib.Core.Bool.{_||_};
-ghost use mathlib.Core.List.{[]};
 ghost use Prim.Native.Nat.{_+_, _*_, _≤_, _<_};
 ghost use lib.ListN.{length};
 ghost use lib.Dec.{leb, ltb};
@@ -12,7 +11,6 @@ ghost use Rattle.member.specs.Format.{AllowedMember, AllowedVehicle};
 ghost use Rattle.rating.specs.Surveyed.{membersOf, AllowedSurvey};
 ghost use Rattle.rating.specs.Judgement.{verdictOf, ratingOf, judgementOf, written};
 ghost use Rattle.rating.specs.Turn.{both, withMember};
-ghost use Rattle.member.specs.declared.record.Vehicle.{Vehicle};
 use crate::vehicle::vehicle_load_on;
 use member::permitted::permitted_load;
 use member::record::*;
@@ -96,20 +94,8 @@ fn figure_with(first: bool, permitted: KgfPerM, figure: KgfPerM) -> KgfPerM
     if first | lower { permitted } else { figure }
 }
 
-// The judgement of no members.
-pub fn no_members() -> Judgement
-    ensures { λ r. ⌜ ((v : Vehicle) → r ≡ judgementOf [] v) ⌝ }
-{
-    Judgement {
-        figure: KgfPerM(0),
-        governing: 0,
-        verdict: Verdict::Pass,
-        margin: 0,
-    }
-}
-
 // The judgement of the members so far and one more. A tie leaves the earlier member governing.
-pub fn with_member(j: Judgement, r: Rating, place: u64) -> Judgement
+fn with_member(j: Judgement, r: Rating, place: u64) -> Judgement
     ensures { λ k. ⌜ k ≡ withMember j r place ⌝ }
 {
     let before = j.verdict;
@@ -147,7 +133,12 @@ pub fn judge(s: Survey, v: Vehicle, list: &mut [u64]) -> Judgement
     ensures list { λ r. ⌜ now (list .exit) ≡ written v (membersOf s) (now (list .entry)) ⌝ }
 {
     let count = s.count;
-    let mut j = no_members();
+    let mut j = Judgement {
+        figure: KgfPerM(0),
+        governing: 0,
+        verdict: Verdict::Pass,
+        margin: 0,
+    };
     let mut i = 0;
     while i < count {
         let m = s.members[i];

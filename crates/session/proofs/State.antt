@@ -1,7 +1,7 @@
 -- What the tests of the state say where they find no fault, and that every call leaves a valid session.
 -- Assumes nothing.
 use Prim.Native.Nat.{ℕ, _-_, _*_, _≤_, _<_}
-use mathlib.Core.Path.{_≡_}
+use mathlib.Core.Path.{_≡_, refl}
 use mathlib.Core.Bool.{not}
 use mathlib.Core.List.{List, [], _∷_}
 use native.Mathlib.Decide.{decLe}
@@ -11,6 +11,7 @@ use lib.Dec.{eqb, leb}
 use lib.Seq.{getD-take}
 use borrow.Author.Tests.{ne-eqb, le-leb, leb-true}
 use Rattle.member.specs.Format.{AllowedMember, AllowedVehicle, In, _‥_}
+use Rattle.member.specs.declared.record.Vehicle.{Vehicle}
 use Rattle.rating.specs.Judgement.{judgementOf}
 use Rattle.rating.specs.Surveyed.{AllowedSurvey, memberAt}
 use Rattle.files.specs.Reading.{_unless_, isIn}
@@ -20,11 +21,12 @@ use Rattle.files.specs.declared.Reading.the-variants.{Taken, Refused}
 use Rattle.files.specs.declared.Refusal.{Refusal}
 use Rattle.surveys.specs.declared.SurveyRead.{SurveyRead}
 use Rattle.vehicles.specs.declared.VehicleRead.{VehicleRead}
+use Rattle.files.proofs.Faults.{reading-case}
 use Rattle.files.proofs.Tests.{not-none, none, passed, in-range, range-in, refutes}
 use Rattle.vehicles.proofs.Vehicles.{taken-vehicle-allowed}
 use Rattle.between.proofs.Pairs.{taken-survey-allowed}
 use Rattle.session.specs.Answers.{loaded, refusedBy, judgementAnswer}
-use Rattle.session.specs.Calls.{Valid, newSession, members, stateFault, rateFault, judgeFault, loadSurvey, loadVehicle, judge, loadFiles, thenJudge, judgeFiles}
+use Rattle.session.specs.Calls.{Valid, newSession, members, stateFault, rateFault, judgeFault, loadSurvey, loadVehicle, judge, loadFiles, storedVehicle, thenJudge, judgeFiles}
 use Rattle.session.specs.Yard.{alone}
 use Rattle.session.specs.declared.AfterLoad.{AfterLoad}
 use Rattle.session.specs.declared.Session.{Session}
@@ -162,6 +164,14 @@ module _ (s : Session) (bytes : List ℕ) where
   unfolding alone thenJudge loadVehicle judge
   alone-taken a e =
       rw (alone, e, judge-ready (s .survey .count) (readVehicle bytes .vehicle .axles) (2 * MOST-MEMBERS) (omega (arith, a .count)) (omega (arith, taken-vehicle-allowed VEHICLE-VERSIONS bytes e .axles)) (omega (arith, a .count)))
+
+  -- the vehicle that was loaded before does not matter
+  pub alone-by-survey : (v : Vehicle) → alone (record { survey = s .survey; vehicle = v }) bytes ≡ alone s bytes
+  unfolding alone thenJudge loadVehicle
+  alone-by-survey v =
+      reading-case (readVehicle bytes .answer)
+      (λ a. thenJudge (storedVehicle (record { survey = s .survey; vehicle = v }) a (readVehicle bytes .vehicle)) .answer ≡ thenJudge (storedVehicle s a (readVehicle bytes .vehicle)) .answer)
+      (λ e. refl) (λ f e. refl)
 
 -- both files, by how the survey was read
 module _ (survey vehicle : List ℕ) where

@@ -7,31 +7,23 @@ use native.Mathlib.Numerals.{add-one}
 use native.Mathlib.Omega.{arith}
 use lib.ListN.{length, take, drop, set, length-set, length-drop}
 use lib.Seq.{take-all, take-suc-set, drop-drop}
-use Rattle.member.specs.Format.{AllowedVehicle}
-use Rattle.vehicles.specs.VehicleFile.{VEHICLE-VERSIONS, readVehicle}
 use Rattle.vehicles.specs.YardFile.{MOST-VEHICLES, ownLength, filesIn, leftAfter}
-use Rattle.files.specs.declared.Reading.{Reading}
 use Rattle.files.specs.declared.Reading.the-variants.{Taken, Refused}
 use Rattle.files.specs.declared.Refusal.{Refusal}
-use Rattle.files.proofs.Faults.{reading-case}
-use Rattle.vehicles.proofs.Vehicles.{taken-vehicle-allowed}
 use Rattle.vehicles.proofs.Yards.{take-most, drop-most, one-more-file, left-after-one}
-use Rattle.rating.specs.Judgement.{judgementOf}
-use Rattle.rating.specs.Surveyed.{AllowedSurvey}
 use Rattle.rating.specs.declared.judging.Judgement.{Judgement}
 use Rattle.rating.specs.declared.judging.Verdict.{Verdict}
 use Rattle.rating.specs.declared.judging.Verdict.the-variants.{Pass, Refuse}
 use Rattle.session.specs.Answers.{Answer, Values, WithMargin, WithDeflection, RefusedAt, loadAnswer, judgeAnswer, verdictNumber, judgementAnswer, refusedBy}
 use Rattle.session.specs.Calls.{unlessRefused}
 use Rattle.session.specs.Yard.{Entry, entries, alone, passing, firstRefusal}
-use Rattle.session.specs.YardRun.{answersTo, judgedOn, nextRead, nextVehicle, judgedBy, withAnswer, Ran}
+use Rattle.session.specs.YardRun.{answersTo, withAnswer, Ran}
 use Rattle.session.specs.declared.Judged.{Judged}
 use Rattle.session.specs.declared.Judged.the-variants.{Figures}
 use Rattle.session.specs.declared.Judged.the-variants.{Refused as NotJudged}
 use Rattle.session.specs.declared.Session.{Session}
 use Rattle.session.specs.declared.yard.Run.{Run}
 use Rattle.session.proofs.Loads.{never-both}
-use Rattle.session.proofs.State.{alone-refused, alone-taken}
 
 -- the first refusal of two rows
 pub first-append : (xs ys : List Answer) (x : Answer) → firstRefusal (xs ++ ys) x ≡ firstRefusal xs (firstRefusal ys x)
@@ -96,20 +88,17 @@ ran-none s yard r h a at p sized =
     record {
       answer = rw a;
       sized = sized;
-      few = omega arith;
-      going = λ t. record { within = omega arith; rest = rw at; entries = refl; passes = p };
+      going = λ t. record { within = omega arith; rest = rw at; entries = refl; passes = p; few = omega arith };
     }
 
--- a refusal stays, whatever else is kept
-pub ran-refused : (s : Session) (yard : List ℕ) (i : ℕ) (r next : Run) (f : Refusal) → Ran s yard i r → r .answer ≡ Refused f → next .answer ≡ Refused f →
-    length (next .answers) ≡ MOST-VEHICLES → next .passes ≤ i → Ran s yard (i + 1) next
-ran-refused s yard i r next f h t e sized few =
+-- a refusal stays
+pub ran-refused : (s : Session) (yard : List ℕ) (i : ℕ) (r : Run) (f : Refusal) → Ran s yard i r → r .answer ≡ Refused f → Ran s yard (i + 1) r
+ran-refused s yard i r f h t =
     let before : firstRefusal (answersTo s yard i) (Values []) ≡ refusedBy f = sym (h .answer) ∙ ap loadAnswer t in
     record {
-      answer = ap loadAnswer e ∙ sym (first-more s yard i ∙ first-some (answersTo s yard i) _ (f .number) (f .place) before);
-      sized = sized;
-      few = omega arith;
-      going = λ taken. never-both [] (f .number) (f .place) (ap loadAnswer (sym taken ∙ e));
+      answer = ap loadAnswer t ∙ sym (first-more s yard i ∙ first-some (answersTo s yard i) _ (f .number) (f .place) before);
+      sized = h .sized;
+      going = λ e. never-both [] (f .number) (f .place) (ap loadAnswer (sym e ∙ t));
     }
 
 -- one vehicle more, whose file is cut off what is left, by its answer
@@ -145,7 +134,6 @@ module _ (s : Session) (yard : List ℕ) (i : ℕ) (r : Run) (h : Ran s yard i r
       record {
         answer = sym (first-is (NotJudged f) e);
         sized = h .sized;
-        few = omega (arith, h .few);
         going = λ taken. never-both [] (f .number) (f .place) (ap loadAnswer (sym taken));
       }
   ran-more (Figures j) few e =
@@ -153,7 +141,6 @@ module _ (s : Session) (yard : List ℕ) (i : ℕ) (r : Run) (h : Ran s yard i r
       record {
         answer = sym (first-is (Figures j) e);
         sized = length-set (r .answers) i j ∙ h .sized;
-        few = omega (arith, h .few, verdict-small (j .verdict));
         going = λ taken.
             record {
               within = within;
@@ -162,60 +149,24 @@ module _ (s : Session) (yard : List ℕ) (i : ℕ) (r : Run) (h : Ran s yard i r
                   ap (λ (n : ℕ). entries (take n (set (r .answers) i j))) (add-one i) ∙ ap entries (take-suc-set (r .answers) i j (omega (arith, h .sized))) ∙ map-append judgementAnswer (take i (r .answers)) (j ∷ []) ∙ ap (λ (l : List Entry). l ++ judgementAnswer j ∷ []) (h .going t .entries) ∙ sym own;
               passes =
                   sym (ap passing own ∙ passing-append (answersTo s yard i) (judgementAnswer j ∷ []) ∙ rw (passing-one j, ← (h .going t .passes)));
+              few = omega (arith, h .going t .few, verdict-small (j .verdict));
             };
       }
 
-  -- and by how its file was read
-  read-more : AllowedSurvey (s .survey) → i < MOST-VEHICLES →
-      let next = nextVehicle Taken (r .at) yard (s .survey .count) in
-      (j : Judgement) → j ≡ judgementOf (take (next .members) (s .survey .members)) (next .vehicle) → Ran s yard (i + 1) (withAnswer r (judgedBy (next .answer) j) i (next .end))
-  read-more a few =
-      let file = take size (drop (r .at) yard) in
-      let v = readVehicle file .vehicle in
-      reading-case (readVehicle file .answer)
-      (λ answer.
-      (j : Judgement) → j ≡ judgementOf (take (judgedOn answer (s .survey .count)) (s .survey .members)) v → Ran s yard (i + 1) (withAnswer r (judgedBy answer j) i end))
-      (λ e j hj. ran-more (Figures j) few (ap judgementAnswer hj ∙ sym (alone-taken s file a e)))
-      (λ f e j hj. ran-more (NotJudged f) few (sym (alone-refused s file f e)))
-
--- one vehicle more, unless one before it is refused
-pub ran-next : (s : Session) (yard : List ℕ) (i : ℕ) (r : Run) → Ran s yard i r → AllowedSurvey (s .survey) → i < MOST-VEHICLES →
-    let next = nextVehicle (r .answer) (r .at) yard (s .survey .count) in
-    (j : Judgement) → j ≡ judgementOf (take (next .members) (s .survey .members)) (next .vehicle) → Ran s yard (i + 1) (withAnswer r (judgedBy (next .answer) j) i (next .end))
-ran-next s yard i r h a few =
-    reading-case (r .answer)
-    (λ answer.
-    let next = nextVehicle answer (r .at) yard (s .survey .count) in
-    (j : Judgement) → j ≡ judgementOf (take (next .members) (s .survey .members)) (next .vehicle) → Ran s yard (i + 1) (withAnswer r (judgedBy (next .answer) j) i (next .end)))
-    (λ t. read-more s yard i r h t a few) (λ f t j hj. ran-refused s yard i r _ f h t refl (h .sized) (h .few))
-
--- a vehicle that is judged on some member is judged on all, and is allowed
-pub next-judged : (before : Reading) (at : ℕ) (yard : List ℕ) (members : ℕ) →
-    let next = nextVehicle before at yard members in
-    0 < next .members → (next .members ≡ members) × (AllowedVehicle (next .vehicle))
-next-judged (Refused f) at yard members = λ few. absurd (omega arith)
-next-judged Taken at yard members =
-    let rest = drop at yard in
-    let file = take (min (ownLength rest) (length rest)) rest in
-    reading-case (readVehicle file .answer) (λ answer. 0 < judgedOn answer members → (judgedOn answer members ≡ members) × (AllowedVehicle (readVehicle file .vehicle)))
-    (λ e few. (refl, taken-vehicle-allowed VEHICLE-VERSIONS file e)) (λ f e few. absurd (omega arith))
-
--- the next file with the parts of the bytes as the code has them
-module _ (at : ℕ) (yard : List ℕ) (n : ℕ) where
+  -- the same with the parts of the bytes as the code has them
   abbrev behind : List ℕ
-  behind = take (length yard - at) (drop at yard)
+  behind = take (length yard - r .at) (drop (r .at) yard)
 
-  abbrev Measured : Type 0
-  Measured = n ≡ min (ownLength behind) (length behind)
+  behind-is : behind ≡ drop (r .at) yard
+  behind-is = take-all (length yard - r .at) (drop (r .at) yard) (omega (arith, length-drop (r .at) yard))
 
-  size-is : Measured → n ≡ min (ownLength (drop at yard)) (length (drop at yard))
-  size-is e = e ∙ ap (λ (l : List ℕ). min (ownLength l) (length l)) (take-all (length yard - at) (drop at yard) (omega (arith, length-drop at yard)))
+  pub file-within : (n : ℕ) → n ≡ min (ownLength behind) (length behind) → r .at + n ≤ length yard
+  file-within n e = let same : n ≡ size = e ∙ ap (λ (l : List ℕ). min (ownLength l) (length l)) behind-is in omega (arith, within)
 
-  pub file-within : at ≤ length yard → Measured → at + n ≤ length yard
-  file-within h e = omega (arith, size-is e, length-drop at yard)
-
-  pub file-read : (members : ℕ) → Measured → nextRead (readVehicle (take (at + n - at) (drop at yard))) (at + n) members ≡ nextVehicle Taken at yard members
-  file-read members e =
-      let size : ℕ = min (ownLength (drop at yard)) (length (drop at yard)) in
-      let length-is : at + n - at ≡ n = omega arith in
-      ap (λ (m : ℕ). nextRead (readVehicle (take m (drop at yard))) (at + n) members) length-is ∙ ap (λ (m : ℕ). nextRead (readVehicle (take m (drop at yard))) (at + m) members) (size-is e)
+  pub ran-vehicle : (n : ℕ) (judged : Judged) → i < MOST-VEHICLES → n ≡ min (ownLength behind) (length behind) →
+      judgeAnswer judged ≡ alone s (take (r .at + n - r .at) (drop (r .at) yard)) →
+      Ran s yard (i + 1) (withAnswer r judged i (r .at + n))
+  ran-vehicle n judged few e a =
+      let same : n ≡ size = e ∙ ap (λ (l : List ℕ). min (ownLength l) (length l)) behind-is in
+      let length-is : r .at + n - r .at ≡ size = omega arith in
+      subst (λ (m : ℕ). Ran s yard (i + 1) (withAnswer r judged i (r .at + m))) (sym same) (ran-more judged few (a ∙ ap (λ (m : ℕ). alone s (take m (drop (r .at) yard))) length-is))

@@ -1,13 +1,10 @@
 -- What the code of the yard keeps between two vehicles, and what `yard_answers` hands to whoever writes the answers (`Answered`). No part of
 -- the three demands.
-use Prim.Native.Nat.{ℕ, _+_, _≤_, min}
+use Prim.Native.Nat.{ℕ, _+_, _≤_}
 use mathlib.Core.Path.{_≡_}
 use mathlib.Core.List.{List, [], map}
 use lib.ListN.{length, take, drop, set}
-use Rattle.vehicles.specs.VehicleFile.{readVehicle, blankVehicle}
-use Rattle.vehicles.specs.YardFile.{MOST-VEHICLES, vehiclesOf, ownLength, filesIn, leftAfter}
-use Rattle.vehicles.specs.declared.VehicleRead.{VehicleRead}
-use Rattle.files.specs.declared.Reading.{Reading}
+use Rattle.vehicles.specs.YardFile.{MOST-VEHICLES, vehiclesOf, filesIn, leftAfter}
 use Rattle.files.specs.declared.Reading.the-variants.{Taken, Refused}
 use Rattle.files.specs.declared.Refusal.{Refusal}
 use Rattle.rating.specs.declared.judging.Judgement.{Judgement}
@@ -18,7 +15,6 @@ use Rattle.session.specs.declared.Judged.{Judged}
 use Rattle.session.specs.declared.Judged.the-variants.{Figures}
 use Rattle.session.specs.declared.Judged.the-variants.{Refused as NotJudged}
 use Rattle.session.specs.declared.Session.{Session}
-use Rattle.session.specs.declared.yard.Next.{Next}
 use Rattle.session.specs.declared.yard.Run.{Run}
 use Rattle.session.specs.declared.yard.YardAnswers.{YardAnswers}
 use Rattle.session.specs.declared.yard.YardJudged.the-variants.{Refused as NotYard}
@@ -26,27 +22,6 @@ use Rattle.session.specs.declared.yard.YardJudged.the-variants.{Refused 
 -- the answers of the first i vehicles
 abbrev pub answersTo : Session → (yard : List ℕ) (i : ℕ) → List Answer
 answersTo s yard i = map (alone s) (filesIn i (drop 1 yard))
-
--- the next vehicle, as its file was read: it is judged on all members, on none where it is refused
-abbrev pub judgedOn : Reading → (members : ℕ) → ℕ
-judgedOn Taken members = members
-judgedOn (Refused f) members = 0
-
-abbrev pub nextRead : VehicleRead → (end members : ℕ) → Next
-nextRead r end members =
-    record { answer = r .answer; end = end; vehicle = r .vehicle; members = judgedOn (r .answer) members }
-
--- its file is cut off what is left, unless one before it is refused
-abbrev pub nextVehicle : Reading → (at : ℕ) (yard : List ℕ) (members : ℕ) → Next
-nextVehicle Taken at yard members =
-    let rest = drop at yard in
-    let size = min (ownLength rest) (length rest) in nextRead (readVehicle (take size rest)) (at + size) members
-nextVehicle (Refused f) at yard members = record { answer = Refused f; end = at; vehicle = blankVehicle; members = 0 }
-
--- what a vehicle gets
-abbrev pub judgedBy : Reading → Judgement → Judged
-judgedBy Taken j = Figures j
-judgedBy (Refused f) j = NotJudged f
 
 -- one vehicle more, by its answer
 abbrev pub withAnswer : Run → Judged → (i end : ℕ) → Run
@@ -60,12 +35,12 @@ pub record Going (s : Session) (yard : List ℕ) (i : ℕ) (r : Run) : Type 0 wh
   pub rest : drop (r .at) yard ≡ leftAfter i (drop 1 yard)
   pub entries : entries (take i (r .answers)) ≡ answersTo s yard i
   pub passes : r .passes ≡ passing (answersTo s yard i)
+  pub few : r .passes ≤ i
 
 -- after i vehicles
 pub record Ran (s : Session) (yard : List ℕ) (i : ℕ) (r : Run) : Type 0 where
   pub answer : loadAnswer (r .answer) ≡ firstRefusal (answersTo s yard i) (Values [])
   pub sized : length (r .answers) ≡ MOST-VEHICLES
-  pub few : r .passes ≤ i
   pub going : r .answer ≡ Taken → Going s yard i r
 
 -- a refused yard has nothing for the writer

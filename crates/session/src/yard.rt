@@ -1,31 +1,26 @@
 // The whole yard in one go: each vehicle is judged alone, and the answers are written once none is refused.
 use crate::Judged;
 use crate::Session;
+use crate::judge_vehicle;
 use crate::verdict_number;
 use files::Reading;
 use files::Refusal;
 use listing::put_all;
-use member::record::Vehicle;
 use rating::judging::Judgement;
 use rating::judging::Verdict;
-use rating::judging::no_members;
-use rating::judging::rate;
-use rating::judging::with_member;
 use section::KgfPerM;
-use vehicles::file::blank_vehicle;
-use vehicles::file::read_vehicle;
 use vehicles::yard::MOST_VEHICLES;
 use vehicles::yard::vehicle_length;
 ghost use mathlib.Core.Path.{_≡_};
 ghost use Prim.Native.Nat.{_+_, _≤_, _<_};
 ghost use lib.ListN.{length};
 ghost use Rattle.files.specs.Reading.{firstOf};
-ghost use Rattle.vehicles.specs.VehicleFile.{readVehicle};
+ghost use Rattle.rating.specs.Surveyed.{AllowedSurvey};
 ghost use Rattle.vehicles.specs.YardFile.{MOST-VEHICLES, vehiclesOf};
 ghost use Rattle.session.specs.Answers.{yardJudged};
 ghost use Rattle.session.specs.Calls.{Valid};
 ghost use Rattle.session.specs.Yard.{frontTests, endTests, entries, judgeYard, yardList};
-ghost use Rattle.session.specs.YardRun.{Ran, Answered, nextRead, nextVehicle, judgedBy, withAnswer, refusedYard};
+ghost use Rattle.session.specs.YardRun.{Ran, Answered, withAnswer, refusedYard};
 
 // What the yard call gives: the number of vehicles that pass, or a refusal.
 pub enum YardJudged {
@@ -71,65 +66,6 @@ fn no_vehicle() -> Run
     }
 }
 
-// The file of the next vehicle, read; where it ends, and on how many members it is judged: on none where it or one before it is refused.
-struct Next {
-    answer: Reading,
-    end: usize,
-    vehicle: Vehicle,
-    members: usize,
-}
-
-fn read_next(file: &[u8], end: usize, members: usize) -> Next
-    ensures { λ r. ⌜ r ≡ nextRead (readVehicle (now (file .entry))) end members ⌝ }
-{
-    let read = read_vehicle(file);
-    let answer = read.answer;
-    let vehicle = read.vehicle;
-    match answer {
-        Reading::Taken => Next {
-            answer,
-            end,
-            vehicle,
-            members,
-        },
-        Reading::Refused(_) => Next {
-            answer,
-            end,
-            vehicle,
-            members: 0,
-        },
-    }
-}
-
-// The next vehicle's file is cut off what is left, unless one before it is refused.
-fn next_vehicle(before: Reading, at: usize, yard: &[u8], members: usize) -> Next
-    requires { ⌜ (before ≡ Reading.Taken → at ≤ length (now yard)) ⌝ }
-    ensures { λ r. ⌜ r ≡ nextVehicle before at (now (yard .entry)) members ⌝ }
-{
-    match before {
-        Reading::Taken => {
-            let end = at + vehicle_length(&yard[at..]);
-            read_next(&yard[at..end], end, members)
-        }
-        Reading::Refused(_) => Next {
-            answer: before,
-            end: at,
-            vehicle: blank_vehicle(),
-            members: 0,
-        },
-    }
-}
-
-// What a vehicle gets: its refusal, or its judgement.
-fn judged_by(answer: Reading, judgement: Judgement) -> Judged
-    ensures { λ r. ⌜ r ≡ judgedBy answer judgement ⌝ }
-{
-    match answer {
-        Reading::Taken => Judged::Figures(judgement),
-        Reading::Refused(r) => Judged::Refused(r),
-    }
-}
-
 // The answer of one vehicle more, whose file ends there.
 fn with_answer(run: Run, judged: Judged, i: usize, end: usize) -> Run
     requires { ⌜ (i < MOST-VEHICLES) × (length (run .answers) ≡ MOST-VEHICLES) × (run .passes ≤ i) ⌝ }
@@ -156,29 +92,32 @@ fn with_answer(run: Run, judged: Judged, i: usize, end: usize) -> Run
     }
 }
 
-// Every vehicle in turn, as far as the first that is refused. The loop over the members stands in this one, as a call for each vehicle would
-// copy the survey.
+// One vehicle more, unless one before it is refused. Of the session only the survey goes on, and once: it is large.
+fn with_vehicle(run: Run, session: Session, yard: &[u8], i: usize) -> Run
+    requires { ⌜ AllowedSurvey (session .survey) × (i < MOST-VEHICLES) × Ran session (now yard) i run ⌝ }
+    ensures { λ r. ⌜ Ran session (now (yard .entry)) (i + 1) r ⌝ }
+{
+    let answer = run.answer;
+    match answer {
+        Reading::Taken => {
+            let at = run.at;
+            let end = at + vehicle_length(&yard[at..]);
+            let judged = judge_vehicle(session.survey, &yard[at..end]);
+            with_answer(run, judged, i, end)
+        }
+        Reading::Refused(_) => run,
+    }
+}
+
+// Every vehicle in turn, as far as the first that is refused.
 fn judge_each(session: Session, yard: &[u8], count: usize) -> Run
-    requires { ⌜ Valid session × (0 < session .survey .count) × (1 ≤ length (now yard)) × (count ≤ MOST-VEHICLES) ⌝ }
+    requires { ⌜ AllowedSurvey (session .survey) × (1 ≤ length (now yard)) × (count ≤ MOST-VEHICLES) ⌝ }
     ensures { λ r. ⌜ Ran session (now (yard .entry)) count r ⌝ }
 {
-    let survey = session.survey;
     let mut run = no_vehicle();
     let mut i: usize = 0;
     while i < count {
-        let before = run.answer;
-        let next = next_vehicle(before, run.at, yard, session.survey.count);
-        let vehicle = next.vehicle;
-        let mut judgement = no_members();
-        let mut k: usize = 0;
-        while k < next.members {
-            let m = survey.members[k];
-            let rating = rate(m, vehicle);
-            judgement = with_member(judgement, rating, k as u64 + 1);
-            k += 1;
-        }
-        let answer = next.answer;
-        run = with_answer(run, judged_by(answer, judgement), i, next.end);
+        run = with_vehicle(run, session, yard, i);
         i += 1;
     }
     run

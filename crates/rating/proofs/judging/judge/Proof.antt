@@ -6,7 +6,7 @@ use native.Mathlib.Omega.{arith}
 use lib.ListN.{length, take, length-set}
 use borrow.Author.Needs.{needs}
 use Rattle.member.specs.Fields.{MOST-MEMBERS}
-use Rattle.rating.specs.Judgement.{loads, written, judgementOf}
+use Rattle.rating.specs.Judgement.{everyPasses, least, firstThat, loads, written, judgementOf}
 use Rattle.rating.proofs.Turns.{turn-judged, turn-written, list-length}
 use Rattle.rating.proofs.judging.judge.Statement.{statement}
 use Rattle.rating.proofs.judging.judge.Tie as tie
@@ -19,18 +19,15 @@ abbrev μ-loop : tie.MeasureT-loop
 μ-loop v list₀ s count j₀ i₀ list j i = count - i
 
 -- a turn's index stays below the most members and the list keeps its length
-kept : (c : tie.At-loop Inv-loop μ-loop) → length (c .loop .list) ≡ length (c .before .before .before .args .list .now)
-kept c = list-length _ _ _ _ (c .loop .inv .0) (c .before .before .before .pre .2) (c .loop .inv .2)
+kept : (c : tie.At-loop Inv-loop μ-loop) → length (c .loop .list) ≡ length (c .before .before .args .list .now)
+kept c = list-length _ _ _ _ (c .loop .inv .0) (c .before .before .pre .2) (c .loop .inv .2)
 
 few : (c : tie.In-loop Inv-loop μ-loop) → c .before .loop .i < MOST-MEMBERS
-few c = omega (arith, c .before .before .before .before .pre .0 .count)
-
-no-members-requires : tie.Need-no-members-requires Inv-loop μ-loop
-no-members-requires c κs = tt
+few c = omega (arith, c .before .before .before .pre .0 .count)
 
 loop-holds : tie.Need-loop-holds Inv-loop μ-loop
-unfolding written loads
-loop-holds c = (omega arith, c .no-members .ensures _, refl)
+unfolding judgementOf least firstThat everyPasses written loads
+loop-holds c = (omega arith, refl, refl)
 
 mul-m : tie.Need-mul-m Inv-loop μ-loop
 mul-m c = record { fits = omega (arith, few c) }
@@ -40,7 +37,7 @@ element-copy-out-m c = few c
 
 rate-requires : tie.Need-rate-requires Inv-loop μ-loop
 rate-requires c κs =
-    let start = c .before .before .before .before .before in
+    let start = c .before .before .before .before in
     (start .pre .0 .members (c .before .before .loop .i) (omega arith), start .pre .1)
 
 mul-list : tie.Need-mul-list Inv-loop μ-loop
@@ -79,7 +76,7 @@ loop-less c = omega arith
 loop-again : tie.Need-loop-again Inv-loop μ-loop
 loop-again c =
     let at = c .before .before .before .before in
-    let pre = at .before .before .before .pre in
+    let pre = at .before .before .pre in
     let inside = c .before .before .before .loop-test .taken in (
       omega arith,
       turn-judged _ (pre .0) _ inside (c .before .rate .ensures) (at .loop .inv .1) (c .with-member .ensures),
@@ -91,7 +88,7 @@ same-length c = kept (c .before)
 
 returns : tie.Need-returns Inv-loop μ-loop
 returns c =
-    let ended : c .before .loop .i ≡ c .before .before .before .before .args .t1 .count = omega arith in
+    let ended : c .before .loop .i ≡ c .before .before .before .args .t1 .count = omega arith in
     (rw ended at (c .before .loop .inv .1), rw ended at (c .before .loop .inv .2))
 
 pub judge-spec : {M : Type 1} → statement M
@@ -100,7 +97,6 @@ judge-spec =
     (tie.spec
     Inv-loop
     μ-loop
-    no-members-requires
     loop-holds
     mul-m
     element-copy-out-m

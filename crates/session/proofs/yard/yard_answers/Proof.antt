@@ -42,7 +42,7 @@ wide-requires c κs = tt
 judge-each-requires : tie.Need-judge-each-requires
 judge-each-requires c κs =
     let h = cleared (c .before .before) in
-    (c .before .before .before .before .before .pre, h .0, h .1, rw (c .wide .ensures) (h .2 .1))
+    (c .before .before .before .before .before .pre .survey (h .0), h .1, rw (c .wide .ensures) (h .2 .1))
 
 found-requires : tie.Need-found-requires
 found-requires c κs =
