@@ -209,19 +209,28 @@ impl Session {
     }
 }
 
-// Loads a survey file and a vehicle file into a new session: the refusal of the first that is refused, or both taken.
+// Loads a survey file and a vehicle file into a new session: the refusal of the first that is refused, or both taken. The survey goes into it where
+// it is read, with no blank one to be replaced.
 pub fn load_files(survey: &[u8], vehicle: &[u8]) -> AfterLoad
     ensures is { λ r. ⌜ loaded r ≡ loadFiles (now (survey .entry)) (now (vehicle .entry)) ⌝ }
     ensures valid { λ r. ⌜ Valid (r .session) ⌝ }
 {
-    let first = Session::new().load_survey(survey);
-    let answer = first.answer;
+    let read = read_survey(survey);
+    let answer = read.answer;
     match answer {
         Reading::Taken => {
-            let session = first.session;
+            let taken = read.survey;
+            let none = blank_vehicle();
+            let session = Session {
+                survey: taken,
+                vehicle: none,
+            };
             session.load_vehicle(vehicle)
         }
-        Reading::Refused(_) => first,
+        Reading::Refused(_) => {
+            let session = Session::new();
+            AfterLoad { session, answer }
+        }
     }
 }
 
