@@ -69,7 +69,7 @@ fn a_vehicle_of_a_yard_costs_one_copy() {
     });
     let [one, two, all] = counts;
     assert!(two <= one + 1 && all <= one + 31, "{counts:?} copies");
-    assert!(one <= 7, "{one} copies");
+    assert!(one <= 5, "{one} copies");
 }
 
 #[test]
@@ -79,5 +79,5 @@ fn a_judgement_copies_seldom() {
     let judge = copies(|| tbr::judge(&survey, vehicle).expect("sound files"));
     let loads = copies(|| tbr::member_loads(&survey, vehicle).expect("sound files"));
     assert!(judge <= 3, "{judge} copies");
-    assert!(loads <= 8, "{loads} copies");
+    assert!(loads <= 5, "{loads} copies");
 }
