@@ -15,8 +15,8 @@ use std::time::{Duration, Instant};
 const TWIN_LIMIT: f64 = 1.5;
 /// How much longer than with 64 members a member may take with 255.
 const MEMBER_LIMIT: f64 = 1.3;
-/// How much longer than alone a vehicle may take in a yard of 32.
-const VEHICLE_LIMIT: f64 = 1.2;
+/// How long a vehicle may take in a yard of 32, to one alone: less, as the survey is read but once.
+const VEHICLE_LIMIT: f64 = 0.9;
 /// Rounds of a comparison; the two take turns, and the fastest round of each counts, the one that
 /// other programs disturbed least.
 const ROUNDS: usize = 200;

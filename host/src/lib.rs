@@ -5,8 +5,9 @@
 //! and the verdict, or the refusal of a file; [`member_loads`] gives the two loads of every member,
 //! and [`judge_yard`] judges up to 32 vehicles, joined to a yard by [`file::join_yard`]. Each is a
 //! call of the proved library; no load is worked out here, and a margin is the difference of two. A
-//! survey has 1 to 255 members, a vehicle 1 to 16 axles. Surveys and vehicles are of version 1 or 2: in version 2 the members of a survey stand in one
-//! order, and the axles of a vehicle may weigh more than 60,000 kgf, up to 200,000.
+//! survey has 1 to 255 members, a vehicle 1 to 16 axles. Surveys and vehicles are of version 1 or 2:
+//! in version 2 the members of a survey stand in one order, and the axles of a vehicle may weigh more
+//! than 60,000 kgf, up to 200,000.
 //!
 //! ```
 //! let survey = include_bytes!("../../samples/case-a.tbr");

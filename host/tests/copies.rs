@@ -1,6 +1,6 @@
 //! The longest survey takes 8 KB, and the library hands it on by value: how often a call copies it.
-//! The library calls `memcpy` for so large a copy, and this program has a `memcpy` of its own, which
-//! counts.
+//! The library calls `memcpy` for so large a copy, and this program has a `memcpy` of its own,
+//! which counts.
 
 use reference::generate::*;
 use reference::layout::{Words, MOST_MEMBERS};
@@ -26,7 +26,8 @@ pub unsafe extern "C" fn memcpy(to: *mut c_void, from: *const c_void, bytes: usi
     if bytes >= SURVEY {
         COPIES.with(|copies| copies.set(copies.get() + 1));
     }
-    // SAFETY: as asked of the caller. A loop in Rust may be compiled to a call of this very function.
+    // SAFETY: as asked of the caller. A loop in Rust may be compiled to a call of this very
+    // function.
     unsafe {
         asm!(
             "rep movsb",
@@ -69,7 +70,7 @@ fn a_vehicle_of_a_yard_costs_one_copy() {
     });
     let [one, two, all] = counts;
     assert!(two <= one + 1 && all <= one + 31, "{counts:?} copies");
-    assert!(one <= 5, "{one} copies");
+    assert!((1..=5).contains(&one), "{one} copies");
 }
 
 #[test]
@@ -78,6 +79,6 @@ fn a_judgement_copies_seldom() {
     let vehicle = &yard[1..];
     let judge = copies(|| tbr::judge(&survey, vehicle).expect("sound files"));
     let loads = copies(|| tbr::member_loads(&survey, vehicle).expect("sound files"));
-    assert!(judge <= 3, "{judge} copies");
-    assert!(loads <= 5, "{loads} copies");
+    assert!((1..=3).contains(&judge), "{judge} copies");
+    assert!((1..=5).contains(&loads), "{loads} copies");
 }

@@ -12,8 +12,8 @@ use std::collections::BTreeMap;
 const PAIRS: u64 = 100_000;
 
 /// Files for the library: most are small, as brute force is dear; one in 400 is large, and one in
-/// 2000 of the largest. The sorts take turns by the seed, and so do the versions of the vehicle but for those that are
-/// damaged or at the limit, which are of any.
+/// 2000 of the largest. The sorts take turns by the seed, and so do the versions of the vehicle but
+/// for those that are damaged or at the limit, which are of any.
 fn pair(seed: u64) -> (Vec<u8>, Vec<u8>) {
     let random = &mut Random::new(seed);
     let spread = if random.once_in(3) { Spread::Wide } else { Spread::Usual };

@@ -12,7 +12,6 @@ use lib.ListN.{length}
 use borrow.Author.Tests.{ne-eqb, eqb-false, lt-leb}
 use Rattle.section.specs.Choose.{choose}
 use Rattle.rating.specs.Compare.{Matching, SamePlaces, Heavier}
-use Rattle.member.specs.Fields.{MOST-MEMBERS}
 use Rattle.member.specs.Format.{AllowedMember, AllowedVehicle, In, _‥_}
 use Rattle.member.specs.Formula.{Permitted}
 use Rattle.member.specs.PermittedLoad.{formulaOf}
@@ -36,7 +35,7 @@ use Rattle.surveys.specs.Refused.{SurveyRefusal}
 use Rattle.vehicles.specs.Refused.{VehicleRefusal}
 use Rattle.files.specs.Reading.{_unless_, isIn}
 use Rattle.surveys.specs.SurveyFile.{countOf, recordAt, recordsOf, readSurvey, surveyOf}
-use Rattle.vehicles.specs.VehicleFile.{VEHICLE-VERSIONS, readVehicle, vehicleOf}
+use Rattle.vehicles.specs.VehicleFile.{VEHICLE-VERSIONS, readVehicle, blankVehicle, vehicleOf}
 use Rattle.files.specs.declared.Refusal.{Refusal}
 use Rattle.files.proofs.Tests.{first-is, rows-is}
 use Rattle.files.proofs.Faults.{reading-case}
@@ -52,7 +51,7 @@ use Rattle.join.specs.Claims.{written as joinedSurvey}
 use Rattle.join.proofs.Claims.{mean-in-range, other-member, join-answered, join-taken}
 use Rattle.join.proofs.Tables.{listed-must-agree, mean-taken}
 use Rattle.session.specs.Answers.{Outcome, Values, WithMargin, RefusedAt, refusedBy, judgementAnswer}
-use Rattle.session.specs.Calls.{newSession, members, stateFault, rateFault, judgeFault, loadSurvey, loadVehicle, storedSurvey, storedVehicle, unlessFault, rate, judge, judgeList, loadFiles, thenJudge, judgeFiles}
+use Rattle.session.specs.Calls.{newSession, members, stateFault, rateFault, judgeFault, loadSurvey, loadVehicle, storedSurvey, storedVehicle, unlessFault, rate, judge, judgeList, loadFiles, judgeFiles}
 use Rattle.demands.specs.Demands.{Demand1, Demand2, Demand3}
 use Rattle.demands.specs.Parts.{FromState, RefusedBoth, Answers, FilesAnswered, Covers, Falls}
 use Rattle.demands.specs.GaugeCall.{no-survey as no-gauge-survey, no-vehicle as no-gauge-vehicle}
@@ -61,7 +60,7 @@ use Rattle.demands.specs.YardCall.{no-survey}
 use Rattle.session.specs.declared.Session.{Session}
 use Rattle.demands.proofs.History.{survey-stays, vehicle-stays, survey-last, last-held, in-turn, in-reverse, calls-valid}
 use Rattle.session.proofs.Loads.{no-refusal, never-both, survey-read, vehicle-read, survey-load, vehicle-load, survey-refused, vehicle-refused, other-survey}
-use Rattle.session.proofs.State.{valid-new, judge-ready, no-survey-fault, no-vehicle-fault, no-place-fault}
+use Rattle.session.proofs.State.{valid-new, alone-taken, files-alone, no-survey-fault, no-vehicle-fault, no-place-fault}
 use Rattle.demands.proofs.Answered.{all-answers}
 use Rattle.member.proofs.Counts.{count-byte-holds}
 use Rattle.surveys.proofs.Longer.{longer-trestles}
@@ -179,11 +178,12 @@ demand1 =
 
 files-answer : (survey vehicle : List ℕ) → AllowedSurveyFile survey → AllowedVehicleFile vehicle →
     judgeFiles survey vehicle .answer ≡ judgementAnswer (judgementOf (members (record { survey = surveyOf survey; vehicle = vehicleOf vehicle })) (vehicleOf vehicle))
-unfolding loadFiles judgeFiles thenJudge judge
 files-answer survey vehicle a b =
     let e = surveys.allowed-taken survey a in
     let f = vehicles.allowed-taken VEHICLE-VERSIONS vehicle b in
-    rw (survey-load newSession survey e, vehicle-load (record { survey = surveyOf survey; vehicle = newSession .vehicle }) vehicle f, judge-ready (surveyOf survey .count) (vehicleOf vehicle .axles) (2 * MOST-MEMBERS) (omega (arith, a .count)) (omega (arith, b .vehicle .axles)) (omega (arith, a .count)))
+    files-alone survey vehicle e
+    ∙ alone-taken (record { survey = readSurvey survey .survey; vehicle = blankVehicle }) vehicle (taken-survey-allowed survey e) f
+    ∙ rw (surveys.taken-survey survey e, vehicles.taken-vehicle VEHICLE-VERSIONS vehicle f)
 
 -- an allowed survey file is taken
 allowed-loads : (s : Session) (bytes : List ℕ) → AllowedSurveyFile bytes → loadSurvey s bytes .answer ≡ Values []

@@ -6,11 +6,10 @@ use mathlib.Core.List.{List, [], _∷_, _++_, map, append-nil}
 use mathlib.Core.Logic.{_⊎_, inl, inr, ⊎-elim}
 use native.Mathlib.Decide.{decLe}
 use native.Mathlib.Omega.{arith}
-use lib.ListN.{length, getD, take, drop, replicate, length-append, length-drop, length-map, List·getD-append}
+use lib.ListN.{length, getD, take, drop, length-append, length-drop, length-map, List·getD-append}
 use lib.Seq.{take-at, getD-append-add, getD-drop}
 use borrow.Author.Tests.{ne-eqb, le-leb, lt-leb}
 use Rattle.member.specs.Format.{_‥_}
-use Rattle.member.specs.Fields.{MOST-MEMBERS}
 use Rattle.rating.specs.Judgement.{judgementOf}
 use Rattle.vehicles.specs.Allowed.{AllowedVehicleFile}
 use Rattle.files.specs.Reading.{firstOf, isIn}
@@ -23,19 +22,14 @@ use Rattle.files.proofs.Faults.{reading-case}
 use Rattle.vehicles.proofs.Vehicles as vehicles
 use Rattle.vehicles.proofs.Yards.{AllowedTo, length-files, files-joined, joined-files, joined-left}
 use Rattle.session.specs.Answers.{Answer, Outcome, Values, RefusedAt, refusedBy, valuesOf, judgementAnswer}
-use Rattle.session.specs.Calls.{Valid, members, loadVehicle, judge, thenJudge, unlessRefused}
+use Rattle.session.specs.Calls.{Valid, members, loadVehicle, judge, unlessRefused}
 use Rattle.session.specs.Yard.{Entry, alone, vehicleAnswers, passing, firstRefusal, frontTests, yardAnswered, judgeYard, yardList}
 use Rattle.demands.specs.YardCall.{fileAt, entryAt, GoodBefore, Counted, YardFault, no-survey, no-count, wrong-count, faulty-vehicle, bytes-left, short-list, Passing, YardAnswered, YardFigures, YardTaken}
 use Rattle.session.specs.declared.Session.{Session}
-use Rattle.session.proofs.Loads.{never-both, vehicle-load, vehicle-refused}
-use Rattle.session.proofs.State.{few-members}
+use Rattle.session.proofs.Loads.{never-both, vehicle-load}
+use Rattle.session.proofs.State as state
 use Rattle.demands.proofs.Answered.{all-answers}
 use Rattle.session.proofs.YardTests as tests
-
--- a refused load is not judged
-then-refused : (o : Outcome) (n p : ℕ) → o .answer ≡ RefusedAt n p → thenJudge o .answer ≡ RefusedAt n p
-unfolding thenJudge
-then-refused o n p e = rw e
 
 -- one vehicle alone: where its file is allowed the answer is its judgement, and else the file's own refusal
 module _ (s : Session) (file : List ℕ) where
@@ -52,13 +46,12 @@ module _ (s : Session) (file : List ℕ) where
       ap (λ (o : Outcome). judge (o .session) lent .answer) (loaded a) ∙ all-answers with h (a .vehicle .axles .0) .judged lent l
 
   alone-answer : Valid s → 0 < s .survey .count → AllowedVehicleFile file → alone s file ≡ judgementAnswer (judgementOf (members s) (vehicleOf file))
-  unfolding alone thenJudge
   alone-answer v h a =
-      ap (λ (o : Outcome). thenJudge o .answer) (loaded a) ∙ all-answers with h (a .vehicle .axles .0) .judged (replicate (2 * MOST-MEMBERS) 0) (omega (arith, few-members s v))
+      let e = vehicles.allowed-taken VEHICLE-VERSIONS file a in
+      state.alone-taken s file (v .survey h) e ∙ rw (vehicles.taken-vehicle VEHICLE-VERSIONS file e)
 
   alone-refused : (r : Refusal) → VehicleRefusal file r → alone s file ≡ refusedBy r
-  unfolding alone
-  alone-refused r h = then-refused (loadVehicle s file) (r .number) (r .place) (vehicle-refused s file r (vehicles.named-refused VEHICLE-VERSIONS file r h))
+  alone-refused r h = state.alone-refused s file r (vehicles.named-refused VEHICLE-VERSIONS file r h)
 
   -- so it is one of the two
   alone-either : AllowedVehicleFile file ⊎ ((r : Refusal) × VehicleRefusal file r)

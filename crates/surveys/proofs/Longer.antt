@@ -14,14 +14,18 @@ use Rattle.files.specs.Header.{headerFault}
 use Rattle.files.specs.declared.Reading.the-variants.{Refused}
 use Rattle.files.specs.Refused.{Marked, HeaderFault, too-short, wrong-mark, wrong-count, wrong-length}
 use Rattle.files.proofs.Headers.{header-is}
-use Rattle.surveys.specs.SurveyFile.{SURVEY-HEADER, SURVEY-VERSIONS, RECORD, countOf, surveyHeader, readSurvey}
-use Rattle.surveys.specs.Longer.{OLD-LIMIT, oldHeader, LongerTrestles}
-use Rattle.surveys.proofs.Surveys.{headed-survey, headed-first, refused-named}
+use Rattle.surveys.specs.SurveyFile.{SURVEY-HEADER, SURVEY-VERSIONS, RECORD, countOf, surveyHeader, surveyAnswer, readSurvey}
+use Rattle.surveys.specs.Longer.{OLD-LIMIT, oldHeader, oldAnswer, LongerTrestles}
+use Rattle.surveys.proofs.Surveys.{headed-first, refused-named}
 
 -- a count that is in both ranges, or in neither
 same-header : (bytes : List ℕ) → countOf bytes ≤ OLD-LIMIT → surveyHeader bytes ≡ oldHeader bytes
 unfolding headerFault
 same-header bytes few = rw (le-leb (countOf bytes) MOST-MEMBERS (omega arith), le-leb (countOf bytes) OLD-LIMIT few)
+
+same-answer : (bytes : List ℕ) → countOf bytes ≤ OLD-LIMIT → readSurvey bytes .answer ≡ oldAnswer bytes
+unfolding readSurvey surveyAnswer oldAnswer
+same-answer bytes few = rw (same-header bytes few)
 
 -- 3 is the fault of the count
 module _ (bytes : List ℕ) where
@@ -43,11 +47,10 @@ module _ (bytes : List ℕ) where
 pub longer-trestles : LongerTrestles
 longer-trestles =
     record {
-      as-before = same-header;
+      as-before = same-answer;
       once-3 =
-          λ bytes many e.
-          let h = headed-survey bytes e in
-          header-is 82 SURVEY-VERSIONS SURVEY-HEADER OLD-LIMIT RECORD bytes (omega arith) (wrong-count (h .long) (h .marked) (λ within. omega (arith, within)));
+          λ bytes long marked many.
+          header-is 82 SURVEY-VERSIONS SURVEY-HEADER OLD-LIMIT RECORD bytes (omega arith) (wrong-count long marked (λ within. omega (arith, within)));
       own-refusal =
           λ bytes byte r e three.
           let named = refused-named bytes r e in

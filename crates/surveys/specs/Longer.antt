@@ -3,27 +3,32 @@
 -- count of 0 still gives 3." The limit is MOST-MEMBERS (member/specs/Fields.antt), and that the byte holds it in member/specs/Counts.antt.
 use Prim.Native.Nat.{ℕ, _≤_, _<_}
 use mathlib.Core.Path.{_≡_}
-use mathlib.Core.List.{List}
+use mathlib.Core.List.{List, _∷_}
 use lib.ListN.{length}
 use Rattle.files.specs.Words.{Bytes}
 use Rattle.files.specs.Header.{headerFault}
 use Rattle.files.specs.Refused.{Marked}
+use Rattle.files.specs.Reading.{firstFault, orElse}
+use Rattle.files.specs.declared.Reading.{Reading}
 use Rattle.files.specs.declared.Reading.the-variants.{Refused}
 use Rattle.files.specs.declared.Refusal.{Refusal}
-use Rattle.surveys.specs.SurveyFile.{SURVEY-HEADER, SURVEY-VERSIONS, RECORD, countOf, surveyHeader, readSurvey}
+use Rattle.surveys.specs.SurveyFile.{SURVEY-HEADER, SURVEY-VERSIONS, RECORD, countOf, recordFaults, sequenceAnswer, readSurvey}
 
--- the limit that there was, and the head's fault by it: nothing else in reading a survey names the limit
+-- the limit that there was, the head's fault by it, and the answer that a file got: as `surveyAnswer`, but for the limit
 abbrev pub OLD-LIMIT : ℕ
 OLD-LIMIT = 64
 
 abbrev pub oldHeader : List ℕ → ℕ
 oldHeader bytes = headerFault 82 SURVEY-VERSIONS SURVEY-HEADER OLD-LIMIT RECORD bytes
 
+unfoldable pub oldAnswer : List ℕ → Reading
+oldAnswer bytes = orElse (firstFault 0 (oldHeader bytes ∷ recordFaults bytes (countOf bytes))) (sequenceAnswer bytes (countOf bytes))
+
 pub record LongerTrestles : Type 0 where
   -- "old files read as before"
-  pub as-before : (bytes : List ℕ) → countOf bytes ≤ OLD-LIMIT → surveyHeader bytes ≡ oldHeader bytes
-  -- "A file of more than 64 records, once refusal 3": one that has no fault in its head now
-  pub once-3 : (bytes : List ℕ) → OLD-LIMIT < countOf bytes → surveyHeader bytes ≡ 0 → oldHeader bytes ≡ 3
+  pub as-before : (bytes : List ℕ) → countOf bytes ≤ OLD-LIMIT → readSurvey bytes .answer ≡ oldAnswer bytes
+  -- "A file of more than 64 records, once refusal 3": whatever its length and its records
+  pub once-3 : (bytes : List ℕ) → SURVEY-HEADER ≤ length bytes → Marked bytes 82 SURVEY-VERSIONS → OLD-LIMIT < countOf bytes → oldHeader bytes ≡ 3
   -- "and else gets its own refusal": 3 is that of a count of 0 alone
   pub own-refusal : (bytes : List ℕ) → Bytes bytes → (r : Refusal) → readSurvey bytes .answer ≡ Refused r → r .number ≡ 3 → countOf bytes ≡ 0
   -- "a count of 0 still gives 3"

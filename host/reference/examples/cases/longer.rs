@@ -83,6 +83,31 @@ fn faults(script: &mut Script) {
     script.rate(255);
 }
 
+/// Version 2 with more than 64 members, and what two surveys are refused for behind the 64th.
+fn behind_the_64th(script: &mut Script) {
+    script.title("version 2, 65 members in order");
+    script.survey(&survey_bytes_of(IN_ORDER, &in_order(&trestle(65))));
+    script.judge(130);
+    let mut first = trestle(65);
+    first[64] = with(usual(1, 1), &[(DEAD_LOAD, 65)]);
+    let last = |changes: &[(usize, u16)]| {
+        let mut second = first.clone();
+        second[64] = with(first[64], changes);
+        survey_of(&second)
+    };
+    let [species, span, q] = [SPECIES, SPAN, DEAD_LOAD].map(|field| first[64][field]);
+    script.title("between, 65 members, the last with less dead load");
+    script.between(&survey_of(&first), &last(&[(DEAD_LOAD, q - 1)]), 130);
+    script.title("join, 65 members, the last of another species, and of a span too far apart");
+    script.join(&survey_of(&first), &last(&[(SPECIES, species + 1)]), MOST_BYTES);
+    script.join(&survey_of(&first), &last(&[(SPAN, span + 6)]), MOST_BYTES);
+}
+
+/// What `bridge` reads in the gate: the longest survey, and a lorry that some members do not bear.
+pub fn bridge() -> Vec<u8> {
+    [survey_of(&trestle(MOST_MEMBERS)), vehicle_of(&lorry(&[[4000, 0], [9000, 370]]))].concat()
+}
+
 /// Two surveys of 255 members, with lists and outputs that just hold them and just do not.
 fn two_surveys(script: &mut Script) {
     let first = trestle(MOST_MEMBERS);
@@ -106,5 +131,6 @@ pub fn cases(script: &mut Script) {
     loaded(script);
     counts(script);
     faults(script);
+    behind_the_64th(script);
     two_surveys(script);
 }

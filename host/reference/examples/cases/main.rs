@@ -1,6 +1,7 @@
-//! Writes the script of stored cases and what its calls must answer, by the reference:
+//! Writes what the programs `cases` and `bridge` read in the gate and what they must print, by the
+//! reference:
 //!
-//!     cargo run --release -p reference --example cases -- ../crates/cases
+//!     cargo run --release -p reference --example cases -- ../crates
 
 mod between;
 mod close_stringers;
@@ -43,21 +44,43 @@ fn script() -> Script {
     script
 }
 
-fn main() -> std::io::Result<()> {
-    let folder = std::env::args().nth(1).expect("the folder of the crate cases");
-    let folder = PathBuf::from(folder);
-    let script = script();
-    std::fs::write(folder.join("stdin"), &script.bytes)?;
-    std::fs::write(folder.join("stdout"), &script.text)
+/// What a program reads and prints.
+struct Stored {
+    program: &'static str,
+    stdin: Vec<u8>,
+    stdout: String,
 }
 
-/// The files of crates/cases are what this program writes, byte by byte.
+/// Of both programs: the script, and the longest survey with a lorry.
+fn stored() -> [Stored; 2] {
+    let Script { bytes, text, .. } = script();
+    let bridge = longer::bridge();
+    let lines = reference::lines::printed(&bridge);
+    [
+        Stored { program: "cases", stdin: bytes, stdout: text },
+        Stored { program: "bridge", stdin: bridge, stdout: lines },
+    ]
+}
+
+fn main() -> std::io::Result<()> {
+    let crates = std::env::args().nth(1).expect("the folder of the crates");
+    for Stored { program, stdin, stdout } in stored() {
+        let folder = PathBuf::from(&crates).join(program);
+        std::fs::write(folder.join("stdin"), stdin)?;
+        std::fs::write(folder.join("stdout"), stdout)?;
+    }
+    Ok(())
+}
+
+/// The files of both crates are what this program writes, byte by byte.
 #[test]
-fn the_stored_script_is_this_one() {
-    let folder = PathBuf::from(concat!(env!("CARGO_MANIFEST_DIR"), "/../../crates/cases"));
-    let stored = |name| std::fs::read(folder.join(name)).expect("a stored file");
-    let script = script();
-    assert!(stored("stdin") == script.bytes, "crates/cases/stdin is another script");
-    assert!(stored("stdout") == script.text.as_bytes(), "crates/cases/stdout has other answers");
-    assert!(script.bytes.len() < reference::script::SPACE, "the program cases has no room for it");
+fn the_stored_files_are_these() {
+    for Stored { program, stdin, stdout } in stored() {
+        let crates = concat!(env!("CARGO_MANIFEST_DIR"), "/../../crates");
+        let folder = PathBuf::from(crates).join(program);
+        let stored = |name| std::fs::read(folder.join(name)).expect("a stored file");
+        assert!(stored("stdin") == stdin, "{program}: another input is stored");
+        assert!(stored("stdout") == stdout.as_bytes(), "{program}: other answers are stored");
+    }
+    assert!(script().bytes.len() < reference::script::SPACE, "cases has no room for its script");
 }

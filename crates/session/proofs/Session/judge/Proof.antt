@@ -1,11 +1,9 @@
 -- `Session::judge` meets its contract: a fault answers itself and writes nothing; else the survey and the vehicle are allowed and the list is long enough.
 -- Assumes nothing.
 use Prim.Native.Nat.{_*_, _≤_}
-use mathlib.Core.Path.{_≡_, refl, sym, _∙_}
-use native.Mathlib.Omega.{arith}
+use mathlib.Core.Path.{sym, _∙_}
 use lib.ListN.{length}
 use denote.Ref.{now}
-use native.Mathlib.Decide.{decLt}
 use borrow.Author.Tests.{eq-eqb, ne-eqb}
 use Rattle.session.specs.Calls.{judge, judgeList}
 use Rattle.session.proofs.State.{Ready, judge-clear, few-members}
