@@ -30,6 +30,7 @@ impl Session {
             };
         }
         let at = (place - 1) as usize;
+        // An element of an array is read of a local, so the survey is copied here.
         let survey = self.survey;
         let m = survey.members[at];
         let answer = gauge::gauge(m, self.vehicle.class, readings);

@@ -13,8 +13,9 @@ use Rattle.member.proofs.Counts.{count-byte-holds}
 use Rattle.files.specs.Header.{headerFault}
 use Rattle.files.specs.declared.Reading.the-variants.{Refused}
 use Rattle.files.specs.Refused.{Marked, HeaderFault, too-short, wrong-mark, wrong-count, wrong-length}
+use Rattle.files.proofs.Faults.{head-first}
 use Rattle.files.proofs.Headers.{header-is}
-use Rattle.surveys.specs.SurveyFile.{SURVEY-HEADER, SURVEY-VERSIONS, RECORD, countOf, surveyHeader, surveyAnswer, readSurvey}
+use Rattle.surveys.specs.SurveyFile.{SURVEY-HEADER, SURVEY-VERSIONS, RECORD, countOf, surveyHeader, recordFaults, surveyAnswer, readSurvey}
 use Rattle.surveys.specs.Longer.{OLD-LIMIT, oldHeader, oldAnswer, LongerTrestles}
 use Rattle.surveys.proofs.Surveys.{headed-first, refused-named}
 
@@ -44,13 +45,16 @@ module _ (bytes : List ℕ) where
   still-refused long marked none =
       headed-first bytes 3 (header-is 82 SURVEY-VERSIONS SURVEY-HEADER MOST-MEMBERS RECORD bytes (omega arith) (wrong-count long marked (λ within. omega (arith, within)))) (omega arith)
 
+  once-refused : SURVEY-HEADER ≤ length bytes → Marked bytes 82 SURVEY-VERSIONS → OLD-LIMIT < countOf bytes → oldAnswer bytes ≡ Refused (record { number = 3; place = 0 })
+  unfolding oldAnswer
+  once-refused long marked many =
+      rw (head-first 0 3 (oldHeader bytes) (recordFaults bytes (countOf bytes)) (header-is 82 SURVEY-VERSIONS SURVEY-HEADER OLD-LIMIT RECORD bytes (omega arith) (wrong-count long marked (λ within. omega (arith, within)))) (omega arith))
+
 pub longer-trestles : LongerTrestles
 longer-trestles =
     record {
       as-before = same-answer;
-      once-3 =
-          λ bytes long marked many.
-          header-is 82 SURVEY-VERSIONS SURVEY-HEADER OLD-LIMIT RECORD bytes (omega arith) (wrong-count long marked (λ within. omega (arith, within)));
+      once-3 = once-refused;
       own-refusal =
           λ bytes byte r e three.
           let named = refused-named bytes r e in

@@ -28,7 +28,8 @@ pub record LongerTrestles : Type 0 where
   -- "old files read as before"
   pub as-before : (bytes : List ℕ) → countOf bytes ≤ OLD-LIMIT → readSurvey bytes .answer ≡ oldAnswer bytes
   -- "A file of more than 64 records, once refusal 3": whatever its length and its records
-  pub once-3 : (bytes : List ℕ) → SURVEY-HEADER ≤ length bytes → Marked bytes 82 SURVEY-VERSIONS → OLD-LIMIT < countOf bytes → oldHeader bytes ≡ 3
+  pub once-3 : (bytes : List ℕ) → SURVEY-HEADER ≤ length bytes → Marked bytes 82 SURVEY-VERSIONS → OLD-LIMIT < countOf bytes →
+      oldAnswer bytes ≡ Refused (record { number = 3; place = 0 })
   -- "and else gets its own refusal": 3 is that of a count of 0 alone
   pub own-refusal : (bytes : List ℕ) → Bytes bytes → (r : Refusal) → readSurvey bytes .answer ≡ Refused r → r .number ≡ 3 → countOf bytes ≡ 0
   -- "a count of 0 still gives 3"
