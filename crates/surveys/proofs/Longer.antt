@@ -25,7 +25,7 @@ unfolding headerFault
 same-header bytes few = rw (le-leb (countOf bytes) MOST-MEMBERS (omega arith), le-leb (countOf bytes) OLD-LIMIT few)
 
 same-answer : (bytes : List ℕ) → countOf bytes ≤ OLD-LIMIT → readSurvey bytes .answer ≡ oldAnswer bytes
-unfolding readSurvey surveyAnswer oldAnswer
+unfolding readSurvey surveyAnswer
 same-answer bytes few = rw (same-header bytes few)
 
 -- 3 is the fault of the count
@@ -46,7 +46,6 @@ module _ (bytes : List ℕ) where
       headed-first bytes 3 (header-is 82 SURVEY-VERSIONS SURVEY-HEADER MOST-MEMBERS RECORD bytes (omega arith) (wrong-count long marked (λ within. omega (arith, within)))) (omega arith)
 
   once-refused : SURVEY-HEADER ≤ length bytes → Marked bytes 82 SURVEY-VERSIONS → OLD-LIMIT < countOf bytes → oldAnswer bytes ≡ Refused (record { number = 3; place = 0 })
-  unfolding oldAnswer
   once-refused long marked many =
       rw (head-first 0 3 (oldHeader bytes) (recordFaults bytes (countOf bytes)) (header-is 82 SURVEY-VERSIONS SURVEY-HEADER OLD-LIMIT RECORD bytes (omega arith) (wrong-count long marked (λ within. omega (arith, within)))) (omega arith))
 

@@ -3,26 +3,25 @@
 -- count of 0 still gives 3." The limit is MOST-MEMBERS (member/specs/Fields.antt), and that the byte holds it in member/specs/Counts.antt.
 use Prim.Native.Nat.{ℕ, _≤_, _<_}
 use mathlib.Core.Path.{_≡_}
-use mathlib.Core.List.{List, _∷_}
+use mathlib.Core.List.{List}
 use lib.ListN.{length}
 use Rattle.files.specs.Words.{Bytes}
 use Rattle.files.specs.Header.{headerFault}
 use Rattle.files.specs.Refused.{Marked}
-use Rattle.files.specs.Reading.{firstFault, orElse}
 use Rattle.files.specs.declared.Reading.{Reading}
 use Rattle.files.specs.declared.Reading.the-variants.{Refused}
 use Rattle.files.specs.declared.Refusal.{Refusal}
-use Rattle.surveys.specs.SurveyFile.{SURVEY-HEADER, SURVEY-VERSIONS, RECORD, countOf, recordFaults, sequenceAnswer, readSurvey}
+use Rattle.surveys.specs.SurveyFile.{SURVEY-HEADER, SURVEY-VERSIONS, RECORD, countOf, answerAfter, readSurvey}
 
--- the limit that there was, the head's fault by it, and the answer that a file got: as `surveyAnswer`, but for the limit
+-- the limit that there was, the header's fault by it, and the answer that a file got
 abbrev pub OLD-LIMIT : ℕ
 OLD-LIMIT = 64
 
 abbrev pub oldHeader : List ℕ → ℕ
 oldHeader bytes = headerFault 82 SURVEY-VERSIONS SURVEY-HEADER OLD-LIMIT RECORD bytes
 
-unfoldable pub oldAnswer : List ℕ → Reading
-oldAnswer bytes = orElse (firstFault 0 (oldHeader bytes ∷ recordFaults bytes (countOf bytes))) (sequenceAnswer bytes (countOf bytes))
+abbrev pub oldAnswer : List ℕ → Reading
+oldAnswer bytes = answerAfter (oldHeader bytes) bytes
 
 pub record LongerTrestles : Type 0 where
   -- "old files read as before"

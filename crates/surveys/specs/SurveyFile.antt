@@ -93,9 +93,12 @@ unfoldable pub sequenceAnswer : List ℕ → (n : ℕ) → Reading
 sequenceAnswer bytes n = choose (leb SEQUENCE-FROM (versionOf bytes)) (firstFault 1 (each (sequenceFault bytes) n)) Taken
 
 -- the header's fault has place 0, the records' places start at 1; 16 "after all records are otherwise good"
+abbrev pub answerAfter : (header : ℕ) → List ℕ → Reading
+answerAfter header bytes =
+    orElse (firstFault 0 (header ∷ recordFaults bytes (countOf bytes))) (sequenceAnswer bytes (countOf bytes))
+
 unfoldable pub surveyAnswer : List ℕ → Reading
-surveyAnswer bytes =
-    orElse (firstFault 0 (surveyHeader bytes ∷ recordFaults bytes (countOf bytes))) (sequenceAnswer bytes (countOf bytes))
+surveyAnswer bytes = answerAfter (surveyHeader bytes) bytes
 
 -- the file's records, and blank ones after them
 abbrev pub surveyOf : List ℕ → Survey
