@@ -53,7 +53,7 @@ pub longer-trestles : LongerTrestles
 longer-trestles =
     record {
       as-before = same-answer;
-      once-3 = once-refused;
+      once-3 = λ bytes long marked many. once-refused bytes long marked (omega arith);
       own-refusal =
           λ bytes byte r e three.
           let named = refused-named bytes r e in
