@@ -1,5 +1,7 @@
 // Rot between two readings: two surveys of one bridge, the second as worn or more. Of every member the lowest and the highest permitted load,
 // and whether the vehicle passes for all surveys between the two.
+#![tactic(auto)]
+
 ghost use Rattle.std.specs.Prelude.{◌≡◌, ◌<◌, length};
 ghost use Rattle.member.specs.Format.{AllowedVehicle};
 ghost use Rattle.surveys.specs.SurveyFile.{read_survey};
@@ -16,7 +18,7 @@ use order::order_answer;
 use surveys::file::read_survey;
 
 // The vehicle passes for all surveys between the two, for none, or the two ends differ.
-#[derive(Drop)]
+#[derive(Clone, Copy)]
 pub enum Between {
     All,
     None,
@@ -24,14 +26,14 @@ pub enum Between {
 }
 
 // What the call gives: the verdict, or a refusal.
-#[derive(Drop)]
+#[derive(Clone, Copy)]
 pub enum BetweenJudged {
     Verdict(Between),
     Refused(Refusal),
 }
 
 // Both surveys, and the first refusal of the two files and of their order.
-#[derive(Drop)]
+#[derive(Clone, Copy)]
 struct Pair {
     answer: Reading,
     first: Survey,

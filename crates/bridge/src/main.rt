@@ -1,5 +1,7 @@
 // Rates the bridge on standard input, survey then vehicle: a line for each member, then the bridge's. Where a file is refused the
 // only line is its number and place.
+#![tactic(auto)]
+
 mod input;
 mod report;
 

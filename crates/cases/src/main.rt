@@ -1,5 +1,7 @@
 // Runs the script of stored cases on standard input and prints what the calls answer. Script and expected output are written by the
 // independent reference: (cd host && cargo run --release -p reference --example cases -- ../crates)
+#![tactic(auto)]
+
 use libc::STDIN_FILENO;
 use script::{print, run};
 

@@ -1,4 +1,6 @@
 // The converter: a vehicle file of one version becomes that of the other, with every number kept.
+#![tactic(auto)]
+
 mod bytes;
 
 ghost use Rattle.std.specs.Prelude.{◌≡◌, ◌≤◌, length, take};
@@ -22,14 +24,14 @@ use vehicles::axle::{HEADER, axle_size};
 use vehicles::file::read_vehicle_of;
 
 // The version that is wanted; the file has the other one.
-#[derive(Drop)]
+#[derive(Clone, Copy)]
 pub enum Wanted {
     Version1,
     Version2,
 }
 
 // What the call gives, and the bytes that it writes: none where it is refused.
-#[derive(Drop)]
+#[derive(Clone, Copy)]
 struct Work {
     answer: Written,
     bytes: [u8; LONGEST_FILE],

@@ -1,4 +1,6 @@
 // Lorry and trailer coupled: two vehicle files become one vehicle, the second's axles behind the first's.
+#![tactic(auto)]
+
 ghost use Rattle.std.specs.Prelude.{◌≡◌, ◌+◌, ◌≤◌};
 ghost use Rattle.member.specs.Fields.{MOST_AXLES};
 ghost use Rattle.files.specs.Reading.{first_refusal};

@@ -1,5 +1,7 @@
 // The members' loads for the host program: one exported function on the bytes of both files and a lent list. `yard` has the same for a
 // whole yard.
+#![tactic(auto)]
+
 pub mod yard;
 
 ghost use Rattle.std.specs.Prelude.{◌≡◌, ◌<◌, length};
@@ -14,7 +16,7 @@ use session::{Judged, load_files};
 // The numbers of the judgement, then the number of members, whose loads the list has; 0 members where anything is refused. The
 // host's declaration has the same fields in the same order.
 #[repr(C)]
-#[derive(Drop)]
+#[derive(Clone, Copy)]
 pub struct Loads {
     pub judged: Numbers,
     pub members: u64,

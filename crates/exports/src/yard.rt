@@ -14,7 +14,7 @@ use vehicles::yard::MOST_VEHICLES;
 // Number and place of a refusal, both 0 where there is none; then the number of vehicles, whose answers the list has, and of those that
 // pass, both 0 where anything is refused. The host's declaration has the same fields in the same order.
 #[repr(C)]
-#[derive(Drop)]
+#[derive(Clone, Copy)]
 pub struct YardNumbers {
     pub refusal: u64,
     pub place: u64,

@@ -3,7 +3,7 @@ ghost use Rattle.std.specs.Prelude.{◌≡◌};
 ghost use Rattle.member.specs.Format.{◌‥◌};
 ghost use Rattle.files.specs.Reading.{is_in};
 
-#[derive(Drop)]
+#[derive(Clone, Copy)]
 pub struct Limits {
     pub low: u32,
     pub high: u32,

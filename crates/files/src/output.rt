@@ -6,7 +6,7 @@ ghost use Rattle.files.specs.Words.{bytes_of};
 use crate::Refusal;
 
 // The number of bytes written, or a refusal.
-#[derive(Drop)]
+#[derive(Clone, Copy)]
 pub enum Written {
     Bytes(u64),
     Refused(Refusal),

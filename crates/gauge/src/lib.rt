@@ -1,5 +1,7 @@
 // Gauges under a test load: three readings in millimetres of a gauge under a member, and whether the elastic deflection is within the limit of
 // the member's span.
+#![tactic(auto)]
+
 mod limit;
 mod reading;
 
@@ -16,7 +18,7 @@ use member::record::Member;
 use reading::sixty_fourths;
 
 // The readings in millimetres before the load stood on the bridge, under it, and after it left.
-#[derive(Drop)]
+#[derive(Clone, Copy)]
 pub struct Readings {
     pub empty: f32,
     pub loaded: f32,
@@ -24,14 +26,14 @@ pub struct Readings {
 }
 
 // The elastic deflection in millimetres, within the limit or over it.
-#[derive(Drop)]
+#[derive(Clone, Copy)]
 pub enum Deflection {
     Within(f32),
     Over(f32),
 }
 
 // What the call gives: the elastic deflection, or a refusal.
-#[derive(Drop)]
+#[derive(Clone, Copy)]
 pub enum Gauged {
     Elastic(Deflection),
     Refused(Refusal),

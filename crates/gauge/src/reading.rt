@@ -16,7 +16,7 @@ const GREATEST_EXPONENT: u32 = 135;
 const PARTS: u64 = 8388608;
 
 // How many 64ths of a millimetre a reading has; 0 where it is none.
-#[derive(Drop)]
+#[derive(Clone, Copy)]
 pub struct SixtyFourths {
     pub good: bool,
     pub count: u64,

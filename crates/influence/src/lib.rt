@@ -1,5 +1,7 @@
 // The influence line: the greatest that a row of axles gives on a triangle, over every position. Only the positions that
 // put an axle over the apex are tried, in both directions of travel; proofs/Apex.antt shows that they are enough.
+#![tactic(auto)]
+
 ghost use Rattle.std.specs.Prelude.{◌≡◌, ◌+◌, ◌-◌, ◌*◌, ◌≤◌, ◌<◌, max};
 ghost use Rattle.section.specs.Fraction.{over, ceiling};
 ghost use Rattle.section.specs.Units.{weight, FitsSigned};
@@ -10,11 +12,11 @@ ghost use Rattle.influence.specs.Bounds.{Bounded};
 use section::{Cm, Kgf, KgfPerM, fraction};
 
 // A length along the base, in half centimetres.
-#[derive(Drop)]
+#[derive(Clone, Copy)]
 pub struct HalfCm(pub u64);
 
 // A sum of weight × height, where every height is multiplied by apex × (base − apex): kgf times square half centimetres.
-#[derive(Drop)]
+#[derive(Clone, Copy)]
 struct ScaledSum(u64);
 
 // Two half centimetres to the centimetre; a span is at most 5000 cm.

@@ -1,4 +1,6 @@
 // Two measurers: two survey files of one bridge are joined, field by field, into one of version 1.
+#![tactic(auto)]
+
 mod bytes;
 mod record;
 mod rule;

@@ -6,7 +6,7 @@ ghost use Rattle.join.specs.Rule.{size_fields, section_rule, height_rule, rule_o
 use member::record::*;
 use member::wear::{is_loss, is_rot};
 
-#[derive(Drop)]
+#[derive(Clone, Copy)]
 pub enum Rule {
     // They must agree.
     MustAgree,

@@ -1,4 +1,6 @@
 // The judgement for the dispatchers' host program: one exported function on the bytes of both files, which returns numbers.
+#![tactic(auto)]
+
 ghost use Rattle.std.specs.Prelude.{◌≡◌};
 ghost use Rattle.session.specs.Answers.{judge_answer};
 ghost use Rattle.session.specs.Calls.{judge_files};
@@ -9,7 +11,7 @@ use session::{Judged, judge_files, verdict_number};
 // Number and place of a refusal, both 0 where there is none; then figure, governing place and verdict (1 pass, 0 refuse), all 0
 // where a file is refused. The host's declaration has the same fields in the same order.
 #[repr(C)]
-#[derive(Drop)]
+#[derive(Clone, Copy)]
 pub struct Numbers {
     pub refusal: u64,
     pub place: u64,

@@ -53,20 +53,20 @@ pub const MOST_MEMBERS: usize = 255;
 pub const MOST_AXLES: usize = 16;
 
 // The sixteen numbers of a member's record.
-#[derive(Drop)]
+#[derive(Clone, Copy)]
 pub struct Member {
     pub fields: [u16; FIELDS],
 }
 
 // The members of a bridge, of which the first `count` are used.
-#[derive(Drop)]
+#[derive(Clone, Copy)]
 pub struct Survey {
     pub count: usize,
     pub members: [Member; MOST_MEMBERS],
 }
 
 // A lorry: class, track, and of the first `axles` axles the weight and the distance from the axle in front.
-#[derive(Drop)]
+#[derive(Clone, Copy)]
 pub struct Vehicle {
     pub class: u8,
     pub track: Cm,

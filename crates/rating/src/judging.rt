@@ -12,14 +12,14 @@ use member::permitted::permitted_load;
 use member::record::*;
 use section::KgfPerM;
 
-#[derive(Drop)]
+#[derive(Clone, Copy)]
 pub enum Verdict {
     Pass,
     Refuse,
 }
 
 // What rate gives of a member.
-#[derive(Drop)]
+#[derive(Clone, Copy)]
 pub struct Rating {
     pub permitted: KgfPerM,
     pub load: KgfPerM,
@@ -30,7 +30,7 @@ pub struct Rating {
 
 // What judge gives of a bridge: the least permitted load, the place of the member that governs, which has the least margin, the verdict,
 // and that margin.
-#[derive(Drop)]
+#[derive(Clone, Copy)]
 pub struct Judgement {
     pub figure: KgfPerM,
     pub governing: u64,

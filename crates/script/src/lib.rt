@@ -12,6 +12,8 @@
 //   G n   the readings of a gauge: of the n bytes that follow, the first two are the place, then four each the bits of empty, loaded and after
 //   K n   couple two vehicles: of the n bytes that follow, the first two are the gap, the next two the length of the first vehicle, the others
 //         the first and the second
+#![tactic(auto)]
+
 mod buffers;
 mod calls;
 mod gauging;
@@ -31,7 +33,7 @@ const HEAD: usize = 3;
 // The bytes of a number.
 const NUMBER: usize = 2;
 
-#[derive(Drop)]
+#[derive(Clone, Copy)]
 struct Step {
     letter: u8,
     number: usize,

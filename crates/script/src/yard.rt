@@ -11,7 +11,7 @@ use session::Session;
 use session::yard::AfterYard;
 
 // What the call gives, and the array whose first entries were lent.
-#[derive(Drop)]
+#[derive(Clone, Copy)]
 struct YardRun {
     after: AfterYard,
     list: [Judgement; MOST_JUDGEMENTS],

@@ -81,7 +81,7 @@ pub fn crescent_modulus(diameter: Cm, depth: Cm) -> u64
 }
 
 // Logs that lie one on another in tiers, each of this diameter, with the depth of the crescent that is rotten on the top one.
-#[derive(Drop)]
+#[derive(Clone, Copy)]
 pub struct Crescent {
     pub diameter: Cm,
     pub depth: Cm,

@@ -39,7 +39,7 @@ fn least_term(p: u64, q: u64, r: u64, s: u64, t: u64, c: u64, a: u64, d: u64) ->
 
 // A dowelled joint: the dowels' type (1 steel, 2 nail, 3 oak) and diameter, the thickness of the middle and of the outer pieces,
 // their rot, and how many cuts the dowels have.
-#[derive(Drop)]
+#[derive(Clone, Copy)]
 pub struct Dowels {
     pub material: u64,
     pub diameter: Mm,

@@ -1,4 +1,6 @@
 // Units, fractions, species factors and net sections: what a rating is computed from.
+#![tactic(auto)]
+
 pub mod crescent;
 pub mod dowel;
 pub mod fraction;
@@ -8,19 +10,19 @@ pub mod species;
 
 // Lengths are whole centimetres, axle weights whole kgf, loads per metre whole kgf/m. A load per metre is never added
 // to an axle load: each unit is a type of its own.
-#[derive(Drop)]
+#[derive(Clone, Copy)]
 pub struct Cm(pub u64);
 
-#[derive(Drop)]
+#[derive(Clone, Copy)]
 pub struct Kgf(pub u64);
 
-#[derive(Drop)]
+#[derive(Clone, Copy)]
 pub struct KgfPerM(pub u64);
 
 // Millimetres: a dowel's diameter, and the span that a deflection is held against.
-#[derive(Drop)]
+#[derive(Clone, Copy)]
 pub struct Mm(pub u64);
 
 // A force that is not rounded to whole kgf: hundredths of a kgf.
-#[derive(Drop)]
+#[derive(Clone, Copy)]
 pub struct CentiKgf(pub u64);

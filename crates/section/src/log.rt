@@ -31,7 +31,7 @@ pub fn log_modulus(net: Cm) -> u64
 }
 
 // Logs that lie one on another in tiers, each of this diameter, with the rot of the top one.
-#[derive(Drop)]
+#[derive(Clone, Copy)]
 pub struct Log {
     pub diameter: Cm,
     pub rot: Cm,

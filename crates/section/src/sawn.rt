@@ -8,7 +8,7 @@ use crate::fraction::less;
 
 // Sawn beams side by side: width and height of a piece, its rot from the side and from the top, how many pieces, and the area lost of
 // all of them in cm².
-#[derive(Drop)]
+#[derive(Clone, Copy)]
 pub struct Sawn {
     pub width: Cm,
     pub height: Cm,

@@ -3,7 +3,7 @@ ghost use Rattle.std.specs.Prelude.{◌≡◌, ◌≤◌};
 ghost use Rattle.section.specs.Species.{bending_tenths, shear_tenths};
 
 // A species' factors, in tenths: K for bending and tension, S for shear.
-#[derive(Drop)]
+#[derive(Clone, Copy)]
 struct Factors {
     k: u64,
     s: u64,

@@ -8,7 +8,7 @@ use crate::{Session, rate_fault};
 use files::Refusal;
 use gauge::{Gauged, Readings};
 
-#[derive(Drop)]
+#[derive(Clone, Copy)]
 pub struct AfterGauge {
     pub session: Session,
     pub answer: Gauged,

@@ -1,6 +1,8 @@
 // The session: the survey and the vehicle that are loaded, and the calls; `yard` has the one that judges a yard of vehicles, `readings` the
 // one on two surveys between which rot was read, `gauging` the one on the readings of a gauge, `coupling` the one that couples two vehicles. A session
 // goes in by value and comes back beside the answer.
+#![tactic(auto)]
+
 ghost use Rattle.std.specs.Prelude.{◌≡◌, ◌≤◌};
 ghost use Rattle.session.specs.Answers.{verdict_number, loaded, rated, judged, judge_answer};
 ghost use Rattle.member.specs.Fields.{MOST_MEMBERS};
@@ -25,39 +27,39 @@ use vehicles::VehicleRead;
 use vehicles::file::{blank_vehicle, read_vehicle};
 
 // A survey with count 0, or a vehicle with no axles, is not loaded.
-#[derive(Drop)]
+#[derive(Clone, Copy)]
 pub struct Session {
     survey: Survey,
     vehicle: Vehicle,
 }
 
 // What rate gives: the member's loads, verdict and margin, or a refusal.
-#[derive(Drop)]
+#[derive(Clone, Copy)]
 pub enum Rated {
     Loads(Rating),
     Refused(Refusal),
 }
 
 // What judge gives: figure, governing place, verdict and the governing member's margin, or a refusal.
-#[derive(Drop)]
+#[derive(Clone, Copy)]
 pub enum Judged {
     Figures(Judgement),
     Refused(Refusal),
 }
 
-#[derive(Drop)]
+#[derive(Clone, Copy)]
 pub struct AfterLoad {
     pub session: Session,
     pub answer: Reading,
 }
 
-#[derive(Drop)]
+#[derive(Clone, Copy)]
 pub struct AfterRate {
     pub session: Session,
     pub answer: Rated,
 }
 
-#[derive(Drop)]
+#[derive(Clone, Copy)]
 pub struct AfterJudge {
     pub session: Session,
     pub answer: Judged,

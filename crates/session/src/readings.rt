@@ -7,7 +7,7 @@ ghost use Rattle.session.specs.Readings.{judge_between, bounds_list};
 use crate::Session;
 use between::{BetweenJudged, judge_between};
 
-#[derive(Drop)]
+#[derive(Clone, Copy)]
 pub struct AfterBetween {
     pub session: Session,
     pub answer: BetweenJudged,

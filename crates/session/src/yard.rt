@@ -16,20 +16,20 @@ use section::KgfPerM;
 use vehicles::yard::{MOST_VEHICLES, vehicle_length};
 
 // What the yard call gives: the number of vehicles that pass, or a refusal.
-#[derive(Drop)]
+#[derive(Clone, Copy)]
 pub enum YardJudged {
     Passes(u64),
     Refused(Refusal),
 }
 
-#[derive(Drop)]
+#[derive(Clone, Copy)]
 pub struct AfterYard {
     pub session: Session,
     pub answer: YardJudged,
 }
 
 // What the call gives, and the answers that are to be written: the first `count`, none where the yard is refused.
-#[derive(Drop)]
+#[derive(Clone, Copy)]
 pub struct YardAnswers {
     pub after: AfterYard,
     pub count: usize,
@@ -37,7 +37,7 @@ pub struct YardAnswers {
 }
 
 // The vehicles so far: none refused, or the first refusal; where the next file starts, how many pass, and their answers.
-#[derive(Drop)]
+#[derive(Clone, Copy)]
 struct Run {
     answer: Reading,
     at: usize,

@@ -41,7 +41,7 @@ pub fn sawn_inertia(s: Sawn) -> u64
 }
 
 // The boards of a deck: how many, their thickness and width, and the rot of their thickness.
-#[derive(Drop)]
+#[derive(Clone, Copy)]
 pub struct Deck {
     pub boards: u64,
     pub thickness: Cm,

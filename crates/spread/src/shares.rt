@@ -6,7 +6,7 @@ ghost use Rattle.spread.specs.Stiffness.{ten_thousandths};
 ghost use Rattle.spread.specs.Scaled.{part, SharesOf, Bounded};
 
 // Of the loaded stringer and of those one, two and three spacings from it.
-#[derive(Drop)]
+#[derive(Clone, Copy)]
 pub struct Shares {
     pub own: u64,
     pub next: u64,

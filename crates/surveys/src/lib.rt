@@ -1,4 +1,6 @@
 // The survey file: bytes of any length become a survey, or the first fault with its number and place.
+#![tactic(auto)]
+
 mod fault;
 pub mod file;
 mod ranges;
@@ -8,7 +10,7 @@ use files::Reading;
 use member::record::Survey;
 
 // The survey is blank where the file is refused.
-#[derive(Drop)]
+#[derive(Clone, Copy)]
 pub struct SurveyRead {
     pub answer: Reading,
     pub survey: Survey,
