@@ -13,6 +13,7 @@ use Rattle.influence.specs.Influence.{total, behind}
 use Rattle.section.specs.Greatest.{top}
 use Rattle.influence.specs.Scaled.{scaled_sum, apex_top}
 use Rattle.influence.proofs.Steps.{passed, passed_next, passed_cap, behind_passed, sum_next, sum_rest, height_cap, sum_cap, top_of, apex_next}
+use Rattle.influence.proofs.apex_top.Goals.{else-loop-i-test, then-loop-i-test+then-place-eq0}
 use Rattle.influence.proofs.apex_top.Goals as goal
 
 pub loop-j-init : goal.loop-j-init
@@ -82,33 +83,29 @@ loop-i-preserved c =
 
 -- past the inner loop the sum is that of all axles: the loop ends at the last one, or where this axle and all behind it are not on the
 -- base yet, and add nothing
-sum-whole :
-    (c : goal.Left-loop-i) →
-    let l = c in
-    let args = l.args in
-    l.loop-i.sum ≡ scaled_sum args.base.0 args.apex.0 (weight args.weights) (behind args.distances) args.axles l.further-front.result.0
-sum-whole c =
-    let l = c in
-    let args = l.args in
-    ⊎_elim
-    (λ e. let last : l.loop-i.i ≡ args.axles = omega (arith, e.left) in rw last at l.loop-i.invariant.1)
-    (λ t.
-    l.loop-i.invariant.1 ∙
-    sym
-    (sum_rest _ _ (weight args.weights) args.distances l.loop-i.i args.axles l.further-front.result.0 (omega arith)
-    (omega (arith, behind_passed args.distances l.loop-i.i, t.2.ensures, t.3.ensures, t.5.taken))))
-    c.loop-i-test.branch
+sum_whole :
+    (c : goal.After-greater-top) →
+    let args = c.args in
+    c.loop-i.sum ≡ scaled_sum args.base.0 args.apex.0 (weight args.weights) (behind args.distances) args.axles c.further-front.result.0
+sum_whole c =
+    let args = c.args in
+    elim c.loop-i-test.branch [
+      | else-loop-i-test w ↦ let last : c.loop-i.i ≡ args.axles = omega (arith, w.loop-i-test.false) in rw last at c.loop-i.invariant.1
+      | then-loop-i-test+then-place-eq0 w ↦
+          c.loop-i.invariant.1 ∙
+          sym
+          (sum_rest _ _ (weight args.weights) args.distances c.loop-i.i args.axles c.further-front.result.0 (omega arith)
+          (omega (arith, behind_passed args.distances c.loop-i.i, w.half_cm-in-loop-i.ensures, w.beyond-place.ensures, w.if-place-eq0.true)))
+    ]
 
 pub loop-j-preserved : goal.loop-j-preserved
 loop-j-preserved c =
-    let l = c in
-    let at = l in
-    let args = at.args in (
-      apex_next _ _ (weight args.weights) (behind args.distances) _ at.loop-j.j
-          c.greater-top.ensures at.loop-j.invariant.0 (sum-whole c.before)
-          (omega (arith, behind_passed args.distances at.loop-j.j)),
+    let args = c.args in (
+      apex_next _ _ (weight args.weights) (behind args.distances) _ c.loop-j.j
+          c.greater-top.ensures c.loop-j.invariant.0 (sum_whole c)
+          (omega (arith, behind_passed args.distances c.loop-j.j)),
       omega arith,
-      omega (arith, passed_next args.distances at.loop-j.j),
+      omega (arith, passed_next args.distances c.loop-j.j),
     )
 
 pub returns : goal.returns

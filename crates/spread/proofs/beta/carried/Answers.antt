@@ -39,7 +39,6 @@ overflow_add-result-2 c = omega (arith, far-cap c, near-cap c.before.before, fir
 
 pub returns : goal.returns
 unfolding scaled_carried
-returns c =
-    let one = c in
-    let two = let both = c in
-    rw (one.share_at.ensures, one.apart.ensures, two.share_at-2.ensures, two.apart-2.ensures, c.share_at-3.ensures, c.apart-3.ensures) in record { is = both.0 }
+returns c = record {
+  is = rw (c.share_at.ensures, c.apart.ensures, c.share_at-2.ensures, c.apart-2.ensures, c.share_at-3.ensures, c.apart-3.ensures);
+}

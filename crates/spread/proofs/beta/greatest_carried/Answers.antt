@@ -23,7 +23,7 @@ pub loop-i-preserved : goal.loop-i-preserved
 loop-i-preserved c =
     let at = c in
     let a = at.args in
-    (omega arith, top_next (scaled_carried a.s a.d a.m a.r) at.loop-i.i at.loop-i.invariant.1 c.carried.ensures c.greater-most.ensures)
+    (omega arith, top_next (scaled_carried a.s a.d a.m a.r) at.loop-i.i at.loop-i.invariant.1 c.carried.ensures.is c.greater-most.ensures)
 
 pub returns : goal.returns
 returns c =
