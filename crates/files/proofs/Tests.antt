@@ -99,9 +99,9 @@ rows_is P n m h k = go (eqb n 0) (eqb m 0) (eqb-true m 0)
     go true false e = k
     go false d e = h
 
--- a callee's answer, tested by `!`
-pub fails : {answer test : Bool} → answer ≡ test → not answer ≡ true → test ≡ false
-fails {answer} e t = sym e ∙ not-true answer t
+-- a callee's answer, where a test of it failed or held
+pub fails : {answer test : Bool} → answer ≡ test → answer ≡ false → test ≡ false
+fails e t = sym e ∙ t
 
-pub holds : {answer test : Bool} → answer ≡ test → not answer ≡ false → test ≡ true
-holds {answer} e t = sym e ∙ not-false answer t
+pub holds : {answer test : Bool} → answer ≡ test → answer ≡ true → test ≡ true
+holds e t = sym e ∙ t

@@ -1,0 +1,8 @@
+-- `is_marked` meets its contract: the version is the word that the callee gives.
+use borrow.Author.Rules.{rules}
+use Rattle.files.specs.Header.{marked}
+use Rattle.files.proofs.header.is_marked.Goals as goal
+
+pub returns : goal.returns
+unfolding marked
+returns c = rw (c.inside-version.ensures, c.wider.ensures, c.word_at.ensures)

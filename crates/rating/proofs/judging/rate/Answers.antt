@@ -1,0 +1,15 @@
+-- `rating::judging::rate` meets its contract: the two loads, and the verdict and the margin of the two.
+-- Assumes nothing.
+use mathlib.Core.Path.{◌∙◌}
+use mir.Syntax.{w64}
+use mir.Facts.{to_z-of_z}
+use borrow.Author.Rules.{rules}
+use Rattle.rating.proofs.Turns.{rating_is}
+use Rattle.rating.proofs.judging.rate.Goals as goal
+
+pub returns : goal.returns
+returns c =
+    let start = c in
+    rating_is start.args.m start.args.v c.permitted_load-permitted.ensures.is c.vehicle_load_on-load.ensures.is
+    c.verdict_of-verdict.ensures
+    (to_z-of_z {w = w64} (record { sfits = c.margin_of-margin.type_inv }) ∙ c.margin_of-margin.ensures)
