@@ -8,7 +8,7 @@ use Rattle.rating.proofs.judging.with_member.Goals as goal
 
 pub returns-then-first-less : goal.returns-then-first-less
 unfolding with_member
-returns-then-first-less c = ?
+returns-then-first-less c = search rules
 
 pub returns-else-first-less : goal.returns-else-first-less
 unfolding with_member

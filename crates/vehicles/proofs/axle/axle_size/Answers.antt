@@ -1,0 +1,10 @@
+-- `axle_size` meets its contract: a distance has two bytes.
+use native.Mathlib.Omega.{arith}
+use borrow.Author.Rules.{rules}
+use Rattle.vehicles.proofs.axle.axle_size.Goals as goal
+
+pub returns : goal.returns
+returns c = record {
+      is = omega (arith, c.weight_bytes.ensures.is);
+      cap = omega (arith, c.weight_bytes.ensures.cap);
+    }

@@ -1,0 +1,10 @@
+-- `field_within` meets its contract: the range and the number are the callees'.
+use borrow.Author.Rules.{rules}
+use Rattle.vehicles.specs.VehicleFile.{field_within}
+use Rattle.vehicles.proofs.file.field_within.Goals as goal
+
+pub returns : goal.returns
+unfolding field_within
+returns c =
+    let l = c.axle_limits-range.ensures in
+    rw (l.0, l.1, c.axle_field.ensures, c.requires.0) at c.inside.ensures
