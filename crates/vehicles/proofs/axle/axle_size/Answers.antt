@@ -5,6 +5,6 @@ use Rattle.vehicles.proofs.axle.axle_size.Goals as goal
 
 pub returns : goal.returns
 returns c = record {
-      is = omega (arith, c.weight_bytes.ensures.is);
-      cap = omega (arith, c.weight_bytes.ensures.cap);
-    }
+  is = omega (arith, c.weight_bytes.ensures.is);
+  cap = omega (arith, c.weight_bytes.ensures.cap);
+}

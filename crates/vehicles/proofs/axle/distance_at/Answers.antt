@@ -9,7 +9,7 @@ pub overflow_add-at : goal.overflow_add-at
 overflow_add-at c =
     let s = c in
     let room = axle_room s.args.bytes.now s.args.axle s.requires.0 c.axle_at-at.ensures s.requires.2 in
-    omega (arith, room, c.weight_bytes.ensures.is, s.well-formed)
+    omega (arith, room, c.weight_bytes.ensures.is, s.well_formed)
 
 pub word_at-requires : goal.word_at-requires
 word_at-requires c =

@@ -16,7 +16,6 @@ use Rattle.files.proofs.Faults.{clear_more, fault_at}
 use Rattle.vehicles.proofs.Axles.{axle_within_lem}
 use Rattle.vehicles.proofs.file.first_fault.Given as goal
 
-
 abbrev pub invariant-loop-f : goal.invariant-loop-f
 invariant-loop-f l = (l.f ≤ AXLE_FIELDS) × (l.answer ≡ Taken) × (all (field_within l.bytes l.i) l.f ≡ true)
 

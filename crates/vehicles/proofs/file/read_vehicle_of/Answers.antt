@@ -11,6 +11,7 @@ use Rattle.vehicles.specs.Refused.{Fronted}
 use Rattle.files.proofs.Faults.{head_first, head_clear}
 use Rattle.vehicles.proofs.Vehicles.{fronted, read_as}
 use Rattle.vehicles.proofs.file.read_vehicle_of.Goals as goal
+use Rattle.vehicles.proofs.file.read_vehicle_of.Goals.{After-first_fault-answer, Else-number-ne0}
 
 pub returns-then-number-ne0 : goal.returns-then-number-ne0
 unfolding vehicle_answer
@@ -20,51 +21,50 @@ returns-then-number-ne0 c =
     read_as _ b c.refused.result.answer c.refused.result.vehicle e (rw c.refused.ensures.0 c.refused.ensures.1)
 
 -- where the front has no fault
-abbrev file : goal.Else-number-ne0 → List ℕ
+abbrev file : Else-number-ne0 → List ℕ
 file c = c.args.bytes.now
 
-abbrev versions : goal.Else-number-ne0 → Range
+abbrev versions : Else-number-ne0 → Range
 versions c = let a = c.args in a.versions.low ‥ a.versions.high
 
-clear : (c : goal.Else-number-ne0) → vehicle_header (versions c) (file c) ≡ 0
+clear : (c : Else-number-ne0) → vehicle_header (versions c) (file c) ≡ 0
 clear c = sym c.vehicle_header-number.ensures ∙ c.if-number-ne0.false
 
-front : (c : goal.Else-number-ne0) → Fronted (versions c) (file c)
+front : (c : Else-number-ne0) → Fronted (versions c) (file c)
 front c = fronted (versions c) (file c) (clear c)
 
 pub word_at-version-requires : goal.word_at-version-requires
-word_at-version-requires c = omega (arith, (front c).head.long)
+word_at-version-requires c = omega (arith, (front (goal.at.word_at-version-requires c).Else-number-ne0).head.long)
 
 pub bounds-bytes-8 : goal.bounds-bytes-8
-bounds-bytes-8 c = omega (arith, (front c.before.before).head.long)
+bounds-bytes-8 c = omega (arith, (front (goal.at.bounds-bytes-8 c).Else-number-ne0).head.long)
 
 pub first_fault-answer-requires : goal.first_fault-answer-requires
 first_fault-answer-requires c =
-    let h = front c.before.before.before in
+    let h = front (goal.at.first_fault-answer-requires c).Else-number-ne0 in
     let w = c.wide-axles.ensures.0 in
     (c.word_at-version.ensures, omega (arith, h.head.count, w), rw w (omega (arith, h.head.sized)))
 
 pub vehicle_of-vehicle-requires : goal.vehicle_of-vehicle-requires
 vehicle_of-vehicle-requires c =
     let a = c in
-    let h = front c.before.before.before.before.before.before in
+    let h = front (goal.at.vehicle_of-vehicle-requires c).Else-number-ne0 in
     let w = a.wide-axles.ensures.0 in
     (a.word_at-version.ensures, w, omega (arith, h.head.count, w), rw w (omega (arith, h.head.sized)))
 
 -- the axles' first fault is the answer
-answered : (c : goal.In-Taken-1) → c.first_fault-answer.result ≡ vehicle_answer (versions c.before.before.before.before) (file c.before.before.before.before)
+answered : (c : After-first_fault-answer) → c.first_fault-answer.result ≡ vehicle_answer (c.args.versions.low ‥ c.args.versions.high) c.args.bytes.now
 unfolding vehicle_answer
 answered c =
-    let e = c in
-    let b = file e in
-    (rw c.wide-axles.ensures.0 at c.first_fault-answer.ensures) ∙ sym (head_clear 0 _ (axle_faults b (axles_of b)) (clear c.before.before.before.before.before))
+    let b = c.args.bytes.now in
+    (rw c.wide-axles.ensures.0 at c.first_fault-answer.ensures) ∙ sym (head_clear 0 _ (axle_faults b (axles_of b)) (sym c.vehicle_header-number.ensures ∙ c.if-number-ne0.false))
 
 pub returns-in-Taken : goal.returns-in-Taken
 returns-in-Taken c =
     let a = c in
-    read_as _ (file a.before.before.before.before) a.first_fault-answer.result c.vehicle_of-vehicle.result (answered c.before.before) (rw c.in-Taken.is.1 c.vehicle_of-vehicle.ensures)
+    read_as _ a.args.bytes.now a.first_fault-answer.result c.vehicle_of-vehicle.result (answered (goal.at.returns-in-Taken c).After-first_fault-answer) (rw c.in-Taken.is c.vehicle_of-vehicle.ensures)
 
 pub returns-in-Refused : goal.returns-in-Refused
 returns-in-Refused c =
     let a = c in
-    read_as _ (file a.before.before.before.before) c.refused-in-Refused.result.answer c.refused-in-Refused.result.vehicle (c.refused-in-Refused.ensures.0 ∙ answered a) (rw (c.refused-in-Refused.ensures.0, c.in-Refused.is.1) c.refused-in-Refused.ensures.1)
+    read_as _ a.args.bytes.now c.refused-in-Refused.result.answer c.refused-in-Refused.result.vehicle (c.refused-in-Refused.ensures.0 ∙ answered (goal.at.returns-in-Refused c).After-first_fault-answer) (rw (c.refused-in-Refused.ensures.0, c.in-Refused.is) c.refused-in-Refused.ensures.1)

@@ -1,0 +1,15 @@
+-- `is_zeroed` meets its contract: a field that is 0 needs no more; any other has to be used.
+-- Assumes nothing.
+use mathlib.Core.Bool.{or-true, or-false}
+use borrow.Author.Tests.{eq-eqb, ne_eqb}
+use Rattle.surveys.specs.SurveyFile.{zeroed}
+use borrow.Author.Rules.{rules}
+use Rattle.surveys.proofs.fault.is_zeroed.Goals as goal
+
+pub returns-then-m-f-eq0 : goal.returns-then-m-f-eq0
+unfolding zeroed
+returns-then-m-f-eq0 c = rw (eq-eqb _ _ c.if-m-f-eq0.true, or-true)
+
+pub returns : goal.returns
+unfolding zeroed
+returns c = rw (ne_eqb _ _ c.if-m-f-eq0.false, or-false) c.is_used.ensures

@@ -1,0 +1,18 @@
+-- `members_of` meets its contract. The invariant: the array holds the first i records, and blank ones after them.
+use Prim.Native.Nat.{◌-◌, ◌≤◌}
+use mathlib.Core.Path.{◌≡◌}
+use mathlib.Core.List.{◌++◌}
+use native.Mathlib.Omega.{arith}
+use lib.ListN.{replicate}
+use Rattle.files.specs.Words.{each}
+use Rattle.member.specs.Blank.{blank_member}
+use Rattle.member.specs.Fields.{MOST_MEMBERS}
+use Rattle.surveys.specs.SurveyFile.{record_at}
+use Rattle.files.proofs.Each.{store_each}
+use Rattle.surveys.proofs.file.members_of.Given as goal
+
+abbrev pub invariant-loop-i : goal.invariant-loop-i
+invariant-loop-i l = (l.i ≤ l.count) × (l.members ≡ each (record_at l.bytes) l.i ++ replicate (MOST_MEMBERS - l.i) blank_member)
+
+abbrev pub decreases-loop-i : goal.decreases-loop-i
+decreases-loop-i l = l.count - l.i

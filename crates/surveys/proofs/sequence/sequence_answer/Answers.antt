@@ -1,0 +1,49 @@
+-- `sequence_answer` meets its contract. The loop's invariant: none of the first i records stands before its predecessor.
+use Prim.Native.Nat.{◌-◌, ◌≤◌}
+use mathlib.Core.Path.{◌≡◌, refl, sym, ap, ◌∙◌}
+use mathlib.Core.Bool.{Bool, not}
+use native.Mathlib.Omega.{arith}
+use Rattle.files.specs.Header.{version_of}
+use Rattle.files.specs.Reading.{◌unless◌, first_fault}
+use Rattle.surveys.specs.SurveyFile.{SEQUENCE_FROM, sequence_fault}
+use Rattle.files.specs.Words.{each}
+use Rattle.files.specs.declared.Reading.TheVariants.{Taken}
+use Rattle.files.proofs.Faults.{clear_more, fault_at}
+use Rattle.surveys.proofs.Sequences.{fault_is, free_order, ordered_version}
+use Rattle.surveys.proofs.sequence.sequence_answer.Goals as goal
+use Rattle.surveys.proofs.sequence.sequence_answer.Goals.{Else-word_at-lt-SEQUENCE_FROM}
+
+pub returns-then-word_at-lt-SEQUENCE_FROM : goal.returns-then-word_at-lt-SEQUENCE_FROM
+returns-then-word_at-lt-SEQUENCE_FROM c = sym (free_order _ _ (omega (arith, c.word_at.ensures)))
+
+-- past the first test the version asks for the order
+ordered : (c : Else-word_at-lt-SEQUENCE_FROM) → SEQUENCE_FROM ≤ version_of c.args.bytes.now
+ordered c = omega (arith, c.word_at.ensures)
+
+pub loop-i-init : goal.loop-i-init
+unfolding sequence_fault
+loop-i-init c = (omega arith, omega arith, refl, refl)
+
+pub is_before-requires : goal.is_before-requires
+is_before-requires c = (omega arith, omega arith)
+
+pub loop-i-preserved : goal.loop-i-preserved
+loop-i-preserved c =
+    let l = c in
+    let inv = l.loop-i.invariant in
+    let good = fault_is _ l.loop-i.i inv.0 c.is_before.ensures ∙ ap (λ (b : Bool). 16 unless not b) c.if-is_before.false in
+    (omega arith, omega arith, inv.2, clear_more (sequence_fault _) 1 l.loop-i.i inv.3 good)
+
+pub returns-after-loop-i : goal.returns-after-loop-i
+returns-after-loop-i c =
+    let l = c in
+    let ended : l.loop-i.i ≡ l.args.count = omega arith in
+    l.loop-i.invariant.2 ∙ sym (rw ended at l.loop-i.invariant.3) ∙ sym (ordered_version _ _ (ordered (goal.at.returns-after-loop-i c).Else-word_at-lt-SEQUENCE_FROM))
+
+pub returns-then-is_before : goal.returns-then-is_before
+returns-then-is_before c =
+    let l = c in
+    let inv = l.loop-i.invariant in
+    let bad = fault_is _ l.loop-i.i inv.0 c.is_before.ensures ∙ ap (λ (b : Bool). 16 unless not b) c.if-is_before.true in
+    let count = l.args.count in
+    sym (ordered_version _ count (ordered (goal.at.returns-then-is_before c).Else-word_at-lt-SEQUENCE_FROM) ∙ fault_at (sequence_fault _) 1 l.loop-i.i count 16 (omega arith) inv.3 bad (omega arith))
