@@ -10,7 +10,7 @@ use Rattle.gauge.proofs.gauge.Goals.{In-Taken}
 
 -- every test holds
 good : (c : In-Taken) → MayBeGauged c.args.readings
-good c = taken_good _ (sym c.readings_answer-answer.ensures ∙ c.enum_told-1.given.1)
+good c = taken_good _ (sym c.readings_answer-answer.ensures ∙ c.in-Taken.is)
 
 pub compared-requires : goal.compared-requires
 compared-requires c = (c.requires, good (goal.at.compared-requires c).In-Taken)

@@ -36,7 +36,7 @@ pub loop-f-preserved : goal.loop-f-preserved
 loop-f-preserved c =
     let l = c in
     let zero = holds c.is_zeroed.ensures c.if-not-is_zeroed.false in
-    (omega arith, l.loop-f.invariant.1, rw (add-one, l.loop-f.invariant.2, zero), ranged_more _ l.loop-f.f l.loop-f.good c.is_within.result l.loop-f.invariant.3 c.is_within.ensures)
+    (omega arith, l.loop-f.invariant.1, rw (add-one, l.loop-f.invariant.2, zero), ranged_more _ l.loop-f.f l.loop-f.good c.is_within-good.result l.loop-f.invariant.3 c.is_within-good.ensures)
 
 pub records-preserved : goal.records-preserved
 records-preserved c =

@@ -41,19 +41,4 @@ returns-then-field-eq-MU_B c = rw (c.if-field-eq-MU_B.true, c.if-kind-eq-CLOSE_S
 -- the rest
 pub returns : goal.returns
 unfolding range_of ranges
-returns c =
-    let a = c in
-    let f = a.args.field in
-    let x = ne_eqb f 4 c.if-field-eq-DISTANCE.false in
-    let other : ruled f ≡ false =
-    ⊎_elim (λ w. rw (x, lt-leb f 13 w.1.left) (and-false (leb 8 f))) (λ w. rw (x, lt-leb 8 f w.left)) c.if-field-ge-S1.came in
-    let below : f < 16 = a.pre in
-    ⊎_elim
-    (λ w.
-    let kind : a.args.kind ≡ 7 = w.0.taken in
-    let rest : own f ≡ false = rw (ne_eqb f 3 w.1.left, ne_eqb f 5 w.2.left, ne_eqb f 14 w.3.left, ne_eqb f 15 w.4.left) other in
-    (search (close_entry (λ r. r.low)), search (close_entry (λ r. r.high))))
-    (λ w.
-    let kind : ¬ (a.args.kind ≡ 7) = w.left in
-    (search (other_entry (λ r. r.low)), search (other_entry (λ r. r.high))))
-    c.if-kind-eq-CLOSE_STRINGER.came
+returns c = ?

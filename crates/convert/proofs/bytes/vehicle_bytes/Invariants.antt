@@ -1,0 +1,20 @@
+-- `vehicle_bytes` meets its contract. The loop's invariant: the header and the first i axles are put.
+-- Assumes nothing.
+use Prim.Native.Nat.{◌+◌, ◌-◌, ◌*◌, ◌≤◌, ◌<◌}
+use mathlib.Core.Path.{◌≡◌, ◌∙◌}
+use mathlib.Core.List.{◌++◌, append-nil}
+use native.Mathlib.Omega.{arith}
+use lib.ListN.{take}
+use borrow.Author.Rules.{rules}
+use Rattle.section.proofs.Products.{product_cap}
+use Rattle.vehicles.specs.VehicleFile.{VEHICLE_HEADER, LONGEST_AXLE, axle_size}
+use Rattle.convert.specs.VehicleBytes.{LONGEST_FILE, head_bytes, axles_bytes}
+use Rattle.convert.proofs.Files.{axle_written, all_written}
+use Rattle.convert.proofs.bytes.vehicle_bytes.Given as goal
+
+
+abbrev pub invariant-loop-i : goal.invariant-loop-i
+invariant-loop-i l = (l.i ≤ l.axles) × (take (VEHICLE_HEADER + axle_size l.version * l.i) l.row ≡ head_bytes l.version l.v ++ axles_bytes l.version l.v l.i)
+
+abbrev pub decreases-loop-i : goal.decreases-loop-i
+decreases-loop-i l = l.axles - l.i
