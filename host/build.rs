@@ -8,14 +8,20 @@ use std::env;
 use std::path::{Path, PathBuf};
 use std::process::{exit, Command};
 
-/// The crates whose exported functions are linked.
-const EXPORTING: [&str; 2] = ["judgement", "exports"];
+/// The libraries that are linked, and of each the crate whose exported functions it has.
+const LIBRARIES: [(&str, &str); 2] = [("judgement", "judgement_c"), ("exports", "exports")];
 
-/// Has `rt` make a crate's library in the repository's root.
-fn make(root: &Path, name: &str) -> Result<(), String> {
-    match Command::new("rt").args(["staticlib", name]).current_dir(root).status() {
-        Ok(status) if status.success() => Ok(()),
-        Ok(status) => Err(format!("rt staticlib {name} failed: {status}")),
+/// The file that has a library of this name.
+fn archive(name: &str) -> String {
+    format!("lib{name}.a")
+}
+
+/// Has `rt` make a crate's library, and gives the file that it made.
+fn make(root: &Path, exporting: &str) -> Result<PathBuf, String> {
+    let folder = root.join("crates").join(exporting);
+    match Command::new("rt").arg("lib").current_dir(&folder).status() {
+        Ok(status) if status.success() => Ok(folder.join("out").join(archive(exporting))),
+        Ok(status) => Err(format!("rt lib failed in {}: {status}", folder.display())),
         Err(error) => Err(format!("rt cannot be run: {error}")),
     }
 }
@@ -35,45 +41,51 @@ fn kit_id() -> Option<PathBuf> {
     Some(home.join("KIT-ID")).filter(|file| file.is_file())
 }
 
-/// The libraries are made anew when a crate or the kit changes.
-fn watch(root: &Path) {
-    let crates = ["crates", "crates.txt"].map(|name| root.join(name));
-    for file in crates.into_iter().chain(kit_id()) {
+/// The libraries are made anew when a crate or the kit changes; what `rt` keeps beside a crate's
+/// own files is not looked at, since making a library changes it.
+fn watch(root: &Path) -> std::io::Result<()> {
+    let mut files = vec![root.join("crates.txt")];
+    for entry in std::fs::read_dir(root.join("crates"))? {
+        let folder = entry?.path();
+        let parts = ["src", "specs", "proofs"].map(|part| folder.join(part));
+        files.extend(parts.into_iter().filter(|part| part.exists()));
+    }
+    for file in files.into_iter().chain(kit_id()) {
         println!("cargo:rerun-if-changed={}", file.display());
     }
     for name in ["TBR_LIB_DIR", "RATTLE_HOME", "PATH"] {
         println!("cargo:rerun-if-env-changed={name}");
     }
+    Ok(())
 }
 
-/// Links a copy, so that the build does not lose its library when the root's target/ is cleared.
-fn link(name: &str, libraries: &Path, out: &Path) -> Result<(), String> {
-    let file = format!("lib{name}.a");
-    let library = libraries.join(&file);
-    std::fs::copy(&library, out.join(&file))
+/// Links a copy, so that the build does not lose its library when a crate's out/ is cleared.
+fn link(name: &str, library: &Path, out: &Path) -> Result<(), String> {
+    std::fs::copy(library, out.join(archive(name)))
         .map_err(|error| format!("no library at {}: {error}", library.display()))?;
     println!("cargo:rustc-link-lib=static={name}");
     Ok(())
 }
 
 fn build(root: &Path, out: &Path) -> Result<(), String> {
-    watch(root);
+    watch(root).map_err(|error| format!("the crates cannot be listed: {error}"))?;
     let named = env::var_os("TBR_LIB_DIR").map(PathBuf::from);
     if named.as_ref().is_some_and(|folder| folder.as_os_str().is_empty()) {
         return Ok(());
     }
-    for name in EXPORTING {
-        match &named {
-            Some(folder) => {
-                let library = folder.join(format!("lib{name}.a"));
-                println!("cargo:rerun-if-changed={}", library.display());
-            }
-            None => make(root, name)?,
-        }
-    }
     println!("cargo:rustc-link-search=native={}", out.display());
-    let libraries = named.unwrap_or_else(|| root.join("target/staticlib"));
-    EXPORTING.iter().try_for_each(|name| link(name, &libraries, out))
+    for (name, exporting) in LIBRARIES {
+        let library = match &named {
+            Some(folder) => {
+                let library = folder.join(archive(name));
+                println!("cargo:rerun-if-changed={}", library.display());
+                library
+            }
+            None => make(root, exporting)?,
+        };
+        link(name, &library, out)?;
+    }
+    Ok(())
 }
 
 fn main() {

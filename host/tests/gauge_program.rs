@@ -154,7 +154,10 @@ fn steps_of_other_lengths() {
         sound(&mut script);
         script.gauge_body(&letters[..length]);
         script.rate(1);
-        end_within(&mut script, b'G', &letters[..length]);
+        script.bytes.extend([b'G', 14, 0]);
+        script.bytes.extend(&letters[..length]);
+        script.text.push_str(std::str::from_utf8(&letters[..length]).expect("letters"));
+        script.text.push('\n');
         agree(&script, &format!("cut at {length} bytes"));
     }
     let mut script = Script::default();

@@ -7,16 +7,18 @@ use std::process::{Command, Stdio};
 use std::sync::{Mutex, PoisonError};
 
 /// Where the program is: by TBR_BRIDGE or TBR_CASES where that is set, else the repository's own,
-/// made by `rt check` where it is missing.
+/// made by `rt run` where it is missing. That also runs it, here on no input.
 fn found(name: &str) -> PathBuf {
     if let Some(path) = std::env::var_os(format!("TBR_{}", name.to_uppercase())) {
         return PathBuf::from(path);
     }
-    let root = Path::new(env!("CARGO_MANIFEST_DIR")).join("..");
-    let path = root.join("target/bin").join(name);
+    let folder = Path::new(env!("CARGO_MANIFEST_DIR")).join("../crates").join(name);
+    let path = folder.join("out").join(name);
     if !path.exists() {
-        let status = Command::new("rt").args(["check", name]).current_dir(root).status();
-        assert!(status.expect("rt cannot be run").success(), "rt check {name} failed");
+        let mut rt = Command::new("rt");
+        rt.arg("run").current_dir(folder).stdin(Stdio::null()).stdout(Stdio::null());
+        let status = rt.status().expect("rt cannot be run");
+        assert!(path.exists(), "rt run made no {name}: {status}");
     }
     path
 }

@@ -29,17 +29,13 @@ pub fn load_survey(random: &mut Random, script: &mut Script) {
     script.survey(&bytes);
 }
 
-/// A vehicle file or, now and then, a refused one or two that are coupled.
 pub fn load_vehicle(random: &mut Random, script: &mut Script) {
     let (spread, axles) = (spread(random), 1 + random.below(4));
-    match random.below(12) {
-        0 | 1 => script.vehicle(&some_damage(random).1),
-        2 => {
-            let turn = random.below(4);
-            couple(script, &sound_coupling(random, turn, spread));
-        }
-        _ => script.vehicle(&vehicle_bytes(&vehicle(random, spread, axles))),
-    }
+    let bytes = match random.below(6) {
+        0 => some_damage(random).1,
+        _ => vehicle_bytes(&vehicle(random, spread, axles)),
+    };
+    script.vehicle(&bytes);
 }
 
 /// A step that asks for more bytes than the script has left: what is there is printed.
