@@ -22,18 +22,19 @@ MAKE_LIBRARIES := \
 run:
 	cat samples/case-a.tbr samples/case-l.tbv | (cd crates/bridge && rt run)
 
-# What makes the tested code the proved code: `rt ci` proves from nothing, and leaves the programs that it built in the crates' out/.
+# What makes the tested code the proved code: `rt ci` leaves in the crates' out/ the programs that it built of what is proved, and
 # `rt lib` proves an exporting crate as it compiles it, and so each crate below that is not built yet of these very files. The host's
 # build copies from the folder of libraries alone, and again whenever one there is newer. A must-fail edit that cannot be tried is only
-# counted by `rt ci`, and fails here.
+# counted by `rt ci`; here it is a failure.
 test: lint
 	@log=$$(mktemp); trap 'rm -f "$$log"' EXIT; \
 	rt ci 2>&1 | tee "$$log"; \
 	ok=$$(grep '^rt: ok' "$$log"); \
-	if [[ $$ok =~ ,\ [1-9][0-9]*\ bad ]]; then echo "must-fail edits: $${BASH_REMATCH[0]#, }" >&2; exit 1; fi; \
+	count=$$(grep -oE '^[0-9]+ passed, [0-9]+ failed' "$$log" | tail -n 1); \
+	if [[ $$ok =~ ,\ ([1-9][0-9]*)\ bad ]]; then echo "$${count%,*}, $${BASH_REMATCH[1]} failed"; exit 1; fi; \
 	$(MAKE_LIBRARIES); \
 	TBR_LIB_DIR="$(MADE)" cargo test --release $(HOST); \
-	grep -oE '^[0-9]+ passed, [0-9]+ failed' "$$log" | tail -n 1
+	echo "$$count"
 
 # The libraries that TBR_LIB_DIR names are taken as they are; else they are made.
 libraries:
