@@ -5,28 +5,50 @@
 mod input;
 mod report;
 
+ghost use Rattle.std.specs.Prelude.{◌≤◌, length, IfOk};
+
 use input::{ENOUGH, load_read};
-use libc::STDIN_FILENO;
 use report::print_report;
+use std::io;
+use std::io::{Read, Stdin};
+
+// Reads until the buffer is full or the input ends, and answers how many bytes were read.
+fn read_full(input: &mut Stdin, buffer: &mut [u8]) -> io::Result<usize>
+    ensures { IfOk result (λ n. n ≤ length buffer.new) }
+{
+    let mut n = 0;
+    while n < buffer.len() {
+        let more = input.read(&mut buffer[n..])?;
+        if more == 0 {
+            break;
+        }
+        n += more;
+    }
+    Ok(n)
+}
 
 // Reads once, and answers whether there may be more.
-fn drop_some() -> bool {
-    let mut buffer = io::large_buffer();
-    libc::read(STDIN_FILENO, &mut buffer) > 0
+fn drop_some(input: &mut Stdin) -> io::Result<bool> {
+    let mut buffer = [0u8; 65536];
+    let n = input.read(&mut buffer)?;
+    Ok(n > 0)
 }
 
 // Reads what is left of the input, so that whoever writes it is not cut off. A proved loop has to end, and nothing says that an
-// input does: the loop counts its turns down, from a number that no run uses up.
-fn drop_rest() {
-    let mut turns = u64::MAX;
-    while turns > 0 && drop_some() {
-        turns -= 1;
+// input does: the loop counts its turns, to a number that no run reaches.
+fn drop_rest(input: &mut Stdin) -> io::Result<()> {
+    for _ in 0..u64::MAX {
+        if !drop_some(input)? {
+            break;
+        }
     }
+    Ok(())
 }
 
-fn main() {
+fn main(rt: HostRuntime) -> io::Result<()> {
+    let mut stdin = rt.stdin();
     let mut input = [0u8; ENOUGH];
-    let n = io::read_full(STDIN_FILENO, &mut input);
-    drop_rest();
-    print_report(load_read(&input, n));
+    let n = read_full(&mut stdin, &mut input)?;
+    drop_rest(&mut stdin)?;
+    print_report(&rt, load_read(&input, n))
 }

@@ -2,18 +2,22 @@
 // independent reference: (cd host && cargo run --release -p reference --example cases -- ../crates)
 #![tactic(auto)]
 
-use libc::STDIN_FILENO;
+use script::out::Out;
 use script::{print, run};
+use std::io;
+use std::io::Read;
 
 // A script that fills this is too long: its last steps would be lost.
 const SPACE: usize = 524288;
 
-fn main() {
-    let mut space = [0u8; SPACE];
-    let n = io::read_full(STDIN_FILENO, &mut space);
-    if n == SPACE {
-        print::line(b"the script is too long");
-        return;
+fn main(rt: HostRuntime) -> io::Result<()> {
+    let mut script = Vec::new(rt.alloc());
+    rt.stdin().take(SPACE as u64).read_to_end(&mut script)?;
+    let mut out = Out::new(rt);
+    if script.len() == SPACE {
+        print::line(&mut out, b"the script is too long");
+    } else {
+        run(&mut out, &script);
     }
-    run(&space[..n]);
+    out.end()
 }

@@ -1,4 +1,5 @@
-// The judgement for the dispatchers' host program: one exported function on the bytes of both files, which returns numbers.
+// The judgement for the dispatchers' host program: one function on the bytes of both files, which returns numbers. `judgement_c` exports
+// it.
 #![tactic(auto)]
 
 ghost use Rattle.std.specs.Prelude.{◌≡◌};
@@ -45,8 +46,7 @@ pub fn numbers_of(answer: Judged) -> Numbers
 }
 
 // Judges the bridge of a survey file for the vehicle of a vehicle file. Any bytes of any length get their answer.
-#[unsafe(no_mangle)]
-pub extern "C" fn tbr_judge(survey: &[u8], vehicle: &[u8]) -> Numbers
+pub fn judge_numbers(survey: &[u8], vehicle: &[u8]) -> Numbers
     ensures { result ≡ numbers_of (judge_files survey.now vehicle.now).answer }
 {
     numbers_of(judge_files(survey, vehicle))

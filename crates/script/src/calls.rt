@@ -3,6 +3,7 @@ ghost use Rattle.std.specs.Prelude.{◌≡◌, length};
 ghost use Rattle.session.specs.Calls.{Valid};
 ghost use Rattle.script.specs.Lent.{MOST_ENTRIES};
 
+use crate::out::Out;
 use crate::print;
 use section::Cm;
 use session::Session;
@@ -13,55 +14,55 @@ pub const MOST_ENTRIES: usize = 520;
 // Entry i of a lent list holds KNOWN + i, so that entries that were kept are seen.
 pub const KNOWN: u64 = 1000000;
 
-pub fn start() -> Session
+pub fn start(out: &mut Out) -> Session
     ensures { Valid result }
 {
-    print::line(b"new");
+    print::line(out, b"new");
     Session::new()
 }
 
-pub fn load_survey(session: Session, bytes: &[u8]) -> Session
+pub fn load_survey(out: &mut Out, session: Session, bytes: &[u8]) -> Session
     requires { Valid session }
     ensures { Valid result }
 {
     let after = session.load_survey(bytes);
-    print::text(b"survey");
+    print::text(out, b"survey");
     let answer = after.answer;
-    print::reading(answer);
+    print::reading(out, answer);
     after.session
 }
 
-pub fn load_vehicle(session: Session, bytes: &[u8]) -> Session
+pub fn load_vehicle(out: &mut Out, session: Session, bytes: &[u8]) -> Session
     requires { Valid session }
     ensures { Valid result }
 {
     let after = session.load_vehicle(bytes);
-    print::text(b"vehicle");
+    print::text(out, b"vehicle");
     let answer = after.answer;
-    print::reading(answer);
+    print::reading(out, answer);
     after.session
 }
 
-pub fn couple(session: Session, first: &[u8], second: &[u8], gap: Cm) -> Session
+pub fn couple(out: &mut Out, session: Session, first: &[u8], second: &[u8], gap: Cm) -> Session
     requires { Valid session }
     ensures { Valid result }
 {
     let after = session.couple(first, second, gap);
-    print::text(b"couple");
+    print::text(out, b"couple");
     let answer = after.answer;
-    print::reading(answer);
+    print::reading(out, answer);
     after.session
 }
 
-pub fn rate(session: Session, place: u64) -> Session
+pub fn rate(out: &mut Out, session: Session, place: u64) -> Session
     requires { Valid session }
     ensures { Valid result }
 {
     let after = session.rate(place);
-    print::text(b"rate");
-    print::number(place);
+    print::text(out, b"rate");
+    print::number(out, place);
     let answer = after.answer;
-    print::rated(answer);
+    print::rated(out, answer);
     after.session
 }
 
@@ -78,27 +79,27 @@ pub fn known_list() -> [u64; MOST_ENTRIES]
 }
 
 // Judges with the list, and prints the whole list as it is then.
-fn judge_with(session: Session, list: &mut [u64]) -> Session
+fn judge_with(out: &mut Out, session: Session, list: &mut [u64]) -> Session
     requires { Valid session }
     ensures { Valid result }
 {
     let after = session.judge(list);
-    print::text(b"judge");
+    print::text(out, b"judge");
     let answer = after.answer;
-    print::judged(answer);
-    print::list(list);
+    print::judged(out, answer);
+    print::list(out, list);
     after.session
 }
 
-pub fn judge(session: Session, entries: usize) -> Session
+pub fn judge(out: &mut Out, session: Session, entries: usize) -> Session
     requires { Valid session }
     ensures { Valid result }
 {
     let mut list = known_list();
     if entries <= MOST_ENTRIES {
-        judge_with(session, &mut list[..entries])
+        judge_with(out, session, &mut list[..entries])
     } else {
-        print::line(b"no list is so long");
+        print::line(out, b"no list is so long");
         session
     }
 }

@@ -1,6 +1,7 @@
 // The call on a gauge's readings, with its answer printed. The next step goes on with the session that the call handed back.
 ghost use Rattle.session.specs.Calls.{Valid};
 
+use crate::out::Out;
 use crate::print;
 use gauge::Readings;
 use session::Session;
@@ -20,7 +21,14 @@ fn float_of(bits: u32) -> f32 {
 }
 
 // The readings by their bits.
-pub fn gauge(session: Session, place: u64, empty: u32, loaded: u32, after: u32) -> Session
+pub fn gauge(
+    out: &mut Out,
+    session: Session,
+    place: u64,
+    empty: u32,
+    loaded: u32,
+    after: u32,
+) -> Session
     requires { Valid session }
     ensures { Valid result }
 {
@@ -30,8 +38,8 @@ pub fn gauge(session: Session, place: u64, empty: u32, loaded: u32, after: u32) 
         after: float_of(after),
     };
     let gauged = session.gauge(place, readings);
-    print::text(b"gauge");
+    print::text(out, b"gauge");
     let answer = gauged.answer;
-    print::gauged(answer);
+    print::gauged(out, answer);
     gauged.session
 }

@@ -17,6 +17,7 @@
 mod buffers;
 mod calls;
 mod gauging;
+pub mod out;
 pub mod print;
 mod readings;
 mod yard;
@@ -25,6 +26,7 @@ ghost use Rattle.std.specs.Prelude.{◌+◌, ◌≤◌, ◌<◌, length};
 ghost use Rattle.session.specs.Calls.{Valid};
 
 use convert::Wanted;
+use out::Out;
 use section::Cm;
 use session::Session;
 
@@ -83,15 +85,15 @@ fn end_of(step: Step, from: usize, script: &[u8]) -> usize
 }
 
 // A script that is cut before the yard has no list: its bytes are printed.
-fn run_yard(session: Session, bytes: &[u8]) -> Session
+fn run_yard(out: &mut Out, session: Session, bytes: &[u8]) -> Session
     requires { Valid session }
     ensures { Valid result }
 {
     if bytes.len() < NUMBER {
-        print::line(bytes);
+        print::line(out, bytes);
         return session;
     }
-    yard::judge(session, &bytes[NUMBER..], number_at(bytes, 0))
+    yard::judge(out, session, &bytes[NUMBER..], number_at(bytes, 0))
 }
 
 // Two files stand behind two numbers, of which the second is the first file's length.
@@ -112,56 +114,56 @@ fn first_end(bytes: &[u8]) -> usize
 }
 
 // A script that is cut: its bytes are printed.
-fn run_between(session: Session, bytes: &[u8]) -> Session
+fn run_between(out: &mut Out, session: Session, bytes: &[u8]) -> Session
     requires { Valid session }
     ensures { Valid result }
 {
     let end = first_end(bytes);
     if end < FILES {
-        print::line(bytes);
+        print::line(out, bytes);
         return session;
     }
     let entries = number_at(bytes, 0);
-    readings::judge(session, &bytes[FILES..end], &bytes[end..], entries)
+    readings::judge(out, session, &bytes[FILES..end], &bytes[end..], entries)
 }
 
 // A script that is cut: its bytes are printed.
-fn run_join(bytes: &[u8]) {
+fn run_join(out: &mut Out, bytes: &[u8]) {
     let end = first_end(bytes);
     if end < FILES {
-        print::line(bytes);
+        print::line(out, bytes);
         return;
     }
     let room = number_at(bytes, 0);
-    buffers::join_with(&bytes[FILES..end], &bytes[end..], room);
+    buffers::join_with(out, &bytes[FILES..end], &bytes[end..], room);
 }
 
 // A script that is cut: its bytes are printed.
-fn run_couple(session: Session, bytes: &[u8]) -> Session
+fn run_couple(out: &mut Out, session: Session, bytes: &[u8]) -> Session
     requires { Valid session }
     ensures { Valid result }
 {
     let end = first_end(bytes);
     if end < FILES {
-        print::line(bytes);
+        print::line(out, bytes);
         return session;
     }
     let gap = Cm(number_at(bytes, 0) as u64);
-    calls::couple(session, &bytes[FILES..end], &bytes[end..], gap)
+    calls::couple(out, session, &bytes[FILES..end], &bytes[end..], gap)
 }
 
 // A script that is cut before the file, or wants another version: its bytes are printed.
-fn run_convert(bytes: &[u8]) {
+fn run_convert(out: &mut Out, bytes: &[u8]) {
     let from = 1 + NUMBER;
     if bytes.len() < from {
-        print::line(bytes);
+        print::line(out, bytes);
         return;
     }
     let room = number_at(bytes, 1);
     match bytes[0] {
-        1 => buffers::convert_with(&bytes[from..], Wanted::Version1, room),
-        2 => buffers::convert_with(&bytes[from..], Wanted::Version2, room),
-        _ => print::line(bytes),
+        1 => buffers::convert_with(out, &bytes[from..], Wanted::Version1, room),
+        2 => buffers::convert_with(out, &bytes[from..], Wanted::Version2, room),
+        _ => print::line(out, bytes),
     }
 }
 
@@ -179,60 +181,60 @@ fn bits_at(bytes: &[u8], at: usize) -> u32
 }
 
 // A script that is cut: its bytes are printed.
-fn run_gauge(session: Session, bytes: &[u8]) -> Session
+fn run_gauge(out: &mut Out, session: Session, bytes: &[u8]) -> Session
     requires { Valid session }
     ensures { Valid result }
 {
     if bytes.len() < GAUGE {
-        print::line(bytes);
+        print::line(out, bytes);
         return session;
     }
     let place = number_at(bytes, 0) as u64;
     let empty = bits_at(bytes, NUMBER);
     let loaded = bits_at(bytes, NUMBER + BITS);
     let after = bits_at(bytes, NUMBER + 2 * BITS);
-    gauging::gauge(session, place, empty, loaded, after)
+    gauging::gauge(out, session, place, empty, loaded, after)
 }
 
-fn run_step(session: Session, step: Step, bytes: &[u8]) -> Session
+fn run_step(out: &mut Out, session: Session, step: Step, bytes: &[u8]) -> Session
     requires { Valid session }
     ensures { Valid result }
 {
     let letter = step.letter;
     let number = step.number;
     match letter {
-        b'N' => calls::start(),
-        b'S' => calls::load_survey(session, bytes),
-        b'V' => calls::load_vehicle(session, bytes),
-        b'R' => calls::rate(session, number as u64),
-        b'J' => calls::judge(session, number),
-        b'Y' => run_yard(session, bytes),
-        b'B' => run_between(session, bytes),
+        b'N' => calls::start(out),
+        b'S' => calls::load_survey(out, session, bytes),
+        b'V' => calls::load_vehicle(out, session, bytes),
+        b'R' => calls::rate(out, session, number as u64),
+        b'J' => calls::judge(out, session, number),
+        b'Y' => run_yard(out, session, bytes),
+        b'B' => run_between(out, session, bytes),
         b'C' => {
-            run_convert(bytes);
+            run_convert(out, bytes);
             session
         }
         b'M' => {
-            run_join(bytes);
+            run_join(out, bytes);
             session
         }
-        b'G' => run_gauge(session, bytes),
-        b'K' => run_couple(session, bytes),
+        b'G' => run_gauge(out, session, bytes),
+        b'K' => run_couple(out, session, bytes),
         _ => {
-            print::line(bytes);
+            print::line(out, bytes);
             session
         }
     }
 }
 
-pub fn run(script: &[u8]) {
+pub fn run(out: &mut Out, script: &[u8]) {
     let mut session = Session::new();
     let mut at: usize = 0;
     while HEAD <= script.len() - at {
         let step = step_at(script, at);
         let from = at + HEAD;
         let end = end_of(step, from, script);
-        session = run_step(session, step, &script[from..end]);
+        session = run_step(out, session, step, &script[from..end]);
         at = end;
     }
 }

@@ -1,12 +1,12 @@
 // The answers as text: a space before every field, and the document's number and place of a refusal.
 ghost use Rattle.std.specs.Prelude.{◌≡◌, ◌≤◌, ◌<◌, pos, nat_abs, ◌<ℤ◌};
 
+use crate::out::Out;
 use between::{Between, BetweenJudged};
 use files::output::Written;
 use files::words::widest;
 use files::{Reading, Refusal};
 use gauge::{Deflection, Gauged};
-use libc::STDOUT_FILENO;
 use rating::judging::{Judgement, Verdict};
 use session::yard::YardJudged;
 use session::{Judged, Rated};
@@ -14,18 +14,18 @@ use session::{Judged, Rated};
 // The longest list of judgements that a script can ask for.
 pub const MOST_JUDGEMENTS: usize = 40;
 
-pub fn text(bytes: &[u8]) {
-    io::write_all(STDOUT_FILENO, bytes);
+pub fn text(out: &mut Out, bytes: &[u8]) {
+    out.bytes(bytes);
 }
 
-pub fn line(bytes: &[u8]) {
-    text(bytes);
-    text(b"\n");
+pub fn line(out: &mut Out, bytes: &[u8]) {
+    text(out, bytes);
+    text(out, b"\n");
 }
 
-pub fn number(n: u64) {
-    text(b" ");
-    io::print_decimal(STDOUT_FILENO, n);
+pub fn number(out: &mut Out, n: u64) {
+    text(out, b" ");
+    out.decimal(n);
 }
 
 // The size of a number below 0. That of the least i64 fits no i64, so the sign is taken off one less.
@@ -37,133 +37,133 @@ fn size(n: i64) -> u64
 }
 
 // A number that may be negative, with its sign then.
-fn signed(n: i64) {
+fn signed(out: &mut Out, n: i64) {
     if n < 0 {
-        text(b" -");
-        io::print_decimal(STDOUT_FILENO, size(n));
+        text(out, b" -");
+        out.decimal(size(n));
     } else {
-        number(n as u64);
+        number(out, n as u64);
     }
 }
 
-fn verdict(v: Verdict) {
+fn verdict(out: &mut Out, v: Verdict) {
     match v {
-        Verdict::Pass => text(b" pass"),
-        Verdict::Refuse => text(b" refuse"),
+        Verdict::Pass => text(out, b" pass"),
+        Verdict::Refuse => text(out, b" refuse"),
     }
 }
 
-fn judgement(j: Judgement) {
-    number(j.figure.0);
-    number(j.governing);
+fn judgement(out: &mut Out, j: Judgement) {
+    number(out, j.figure.0);
+    number(out, j.governing);
     let v = j.verdict;
-    verdict(v);
+    verdict(out, v);
     let margin = j.margin;
-    signed(margin);
+    signed(out, margin);
 }
 
-fn refusal(r: Refusal) {
-    text(b" refused");
-    number(r.number);
-    text(b" at");
-    number(r.place);
-    text(b"\n");
+fn refusal(out: &mut Out, r: Refusal) {
+    text(out, b" refused");
+    number(out, r.number);
+    text(out, b" at");
+    number(out, r.place);
+    text(out, b"\n");
 }
 
-pub fn reading(answer: Reading) {
+pub fn reading(out: &mut Out, answer: Reading) {
     match answer {
-        Reading::Taken => line(b" taken"),
-        Reading::Refused(r) => refusal(r),
+        Reading::Taken => line(out, b" taken"),
+        Reading::Refused(r) => refusal(out, r),
     }
 }
 
-pub fn rated(answer: Rated) {
+pub fn rated(out: &mut Out, answer: Rated) {
     match answer {
         Rated::Loads(r) => {
-            number(r.permitted.0);
-            number(r.load.0);
+            number(out, r.permitted.0);
+            number(out, r.load.0);
             let v = r.verdict;
-            verdict(v);
+            verdict(out, v);
             let margin = r.margin;
-            signed(margin);
-            text(b"\n");
+            signed(out, margin);
+            text(out, b"\n");
         }
-        Rated::Refused(r) => refusal(r),
+        Rated::Refused(r) => refusal(out, r),
     }
 }
 
-pub fn judged(answer: Judged) {
+pub fn judged(out: &mut Out, answer: Judged) {
     match answer {
         Judged::Figures(j) => {
-            judgement(j);
-            text(b"\n");
+            judgement(out, j);
+            text(out, b"\n");
         }
-        Judged::Refused(r) => refusal(r),
+        Judged::Refused(r) => refusal(out, r),
     }
 }
 
-pub fn yard(answer: YardJudged) {
+pub fn yard(out: &mut Out, answer: YardJudged) {
     match answer {
         YardJudged::Passes(n) => {
-            number(n);
-            text(b"\n");
+            number(out, n);
+            text(out, b"\n");
         }
-        YardJudged::Refused(r) => refusal(r),
+        YardJudged::Refused(r) => refusal(out, r),
     }
 }
 
-fn verdict_between(v: Between) {
+fn verdict_between(out: &mut Out, v: Between) {
     match v {
-        Between::All => line(b" all"),
-        Between::None => line(b" none"),
-        Between::Undecided => line(b" undecided"),
+        Between::All => line(out, b" all"),
+        Between::None => line(out, b" none"),
+        Between::Undecided => line(out, b" undecided"),
     }
 }
 
-pub fn between(answer: BetweenJudged) {
+pub fn between(out: &mut Out, answer: BetweenJudged) {
     match answer {
-        BetweenJudged::Verdict(v) => verdict_between(v),
-        BetweenJudged::Refused(r) => refusal(r),
+        BetweenJudged::Verdict(v) => verdict_between(out, v),
+        BetweenJudged::Refused(r) => refusal(out, r),
     }
 }
 
 // The bits of a float; a NaN has none of its own.
-fn bits(x: f32) {
+fn bits(out: &mut Out, x: f32) {
     if x != x {
-        text(b" NaN");
+        text(out, b" NaN");
     } else {
-        number(widest(f32::to_bits(x)));
+        number(out, widest(f32::to_bits(x)));
     }
 }
 
-fn deflection(d: Deflection) {
+fn deflection(out: &mut Out, d: Deflection) {
     match d {
         Deflection::Within(x) => {
-            text(b" within");
-            bits(x);
+            text(out, b" within");
+            bits(out, x);
         }
         Deflection::Over(x) => {
-            text(b" over");
-            bits(x);
+            text(out, b" over");
+            bits(out, x);
         }
     }
-    text(b"\n");
+    text(out, b"\n");
 }
 
-pub fn gauged(answer: Gauged) {
+pub fn gauged(out: &mut Out, answer: Gauged) {
     match answer {
-        Gauged::Elastic(d) => deflection(d),
-        Gauged::Refused(r) => refusal(r),
+        Gauged::Elastic(d) => deflection(out, d),
+        Gauged::Refused(r) => refusal(out, r),
     }
 }
 
-pub fn written(answer: Written) {
+pub fn written(out: &mut Out, answer: Written) {
     match answer {
         Written::Bytes(n) => {
-            number(n);
-            text(b"\n");
+            number(out, n);
+            text(out, b"\n");
         }
-        Written::Refused(r) => refusal(r),
+        Written::Refused(r) => refusal(out, r),
     }
 }
 
@@ -174,59 +174,55 @@ fn digit(n: u8) -> u8
     if n < 10 { b'0' + n } else { b'a' + (n - 10) }
 }
 
-fn byte(n: u8) {
+fn byte(out: &mut Out, n: u8) {
     let digits = [digit(n / 16), digit(n % 16)];
-    text(&digits);
+    text(out, &digits);
 }
 
-fn each_byte(bytes: &[u8]) {
-    let mut i: usize = 0;
-    while i < bytes.len() {
-        byte(bytes[i]);
-        i += 1;
+fn each_byte(out: &mut Out, bytes: &[u8]) {
+    for n in bytes {
+        byte(out, *n);
     }
 }
 
 // A buffer's bytes, two digits each; no space behind the word where it is empty.
-pub fn bytes(buffer: &[u8]) {
-    text(b"bytes");
+pub fn bytes(out: &mut Out, buffer: &[u8]) {
+    text(out, b"bytes");
     if buffer.len() != 0 {
-        text(b" ");
+        text(out, b" ");
     }
-    each_byte(buffer);
-    text(b"\n");
+    each_byte(out, buffer);
+    text(out, b"\n");
 }
 
-fn each_entry(entries: &[u64]) {
-    let mut i: usize = 0;
-    while i < entries.len() {
-        number(entries[i]);
-        i += 1;
+fn each_entry(out: &mut Out, entries: &[u64]) {
+    for n in entries {
+        number(out, *n);
     }
 }
 
-pub fn list(entries: &[u64]) {
-    text(b"list");
-    each_entry(entries);
-    text(b"\n");
+pub fn list(out: &mut Out, entries: &[u64]) {
+    text(out, b"list");
+    each_entry(out, entries);
+    text(out, b"\n");
 }
 
-fn each_judgement(list: [Judgement; MOST_JUDGEMENTS], entries: usize)
+fn each_judgement(out: &mut Out, list: [Judgement; MOST_JUDGEMENTS], entries: usize)
     requires { entries ≤ 40 }
 {
     let mut i: usize = 0;
     while i < entries {
         let j = list[i];
-        judgement(j);
+        judgement(out, j);
         i += 1;
     }
 }
 
 // The first `entries` judgements of the list.
-pub fn judgements(list: [Judgement; MOST_JUDGEMENTS], entries: usize)
+pub fn judgements(out: &mut Out, list: [Judgement; MOST_JUDGEMENTS], entries: usize)
     requires { entries ≤ 40 }
 {
-    text(b"list");
-    each_judgement(list, entries);
-    text(b"\n");
+    text(out, b"list");
+    each_judgement(out, list, entries);
+    text(out, b"\n");
 }

@@ -3,6 +3,7 @@ ghost use Rattle.std.specs.Prelude.{◌≤◌, ◌<◌};
 ghost use Rattle.session.specs.Calls.{Valid};
 
 use crate::calls::KNOWN;
+use crate::out::Out;
 use crate::print;
 use crate::print::MOST_JUDGEMENTS;
 use rating::judging::{Judgement, Verdict};
@@ -56,28 +57,28 @@ fn yard_with(
 }
 
 // Judges the yard, and prints the lent list as it is then.
-fn judge_lent(session: Session, bytes: &[u8], entries: usize) -> Session
+fn judge_lent(out: &mut Out, session: Session, bytes: &[u8], entries: usize) -> Session
     requires { Valid session × (entries ≤ 40) }
     ensures { Valid result }
 {
     let run = yard_with(session, bytes, known_list(), entries);
-    print::text(b"yard");
+    print::text(out, b"yard");
     let after = run.after;
     let answer = after.answer;
-    print::yard(answer);
+    print::yard(out, answer);
     let list = run.list;
-    print::judgements(list, entries);
+    print::judgements(out, list, entries);
     after.session
 }
 
-pub fn judge(session: Session, bytes: &[u8], entries: usize) -> Session
+pub fn judge(out: &mut Out, session: Session, bytes: &[u8], entries: usize) -> Session
     requires { Valid session }
     ensures { Valid result }
 {
     if entries <= MOST_JUDGEMENTS {
-        judge_lent(session, bytes, entries)
+        judge_lent(out, session, bytes, entries)
     } else {
-        print::line(b"no list is so long");
+        print::line(out, b"no list is so long");
         session
     }
 }

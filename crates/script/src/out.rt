@@ -1,0 +1,34 @@
+// Where the answers are printed. A write that fails is kept and nothing is written after it, so that the steps go on as if all were
+// written; the end tells whether it was.
+use std::io;
+
+#[derive(Drop)]
+pub struct Out {
+    rt: HostRuntime,
+    written: io::Result<()>,
+}
+
+impl Out {
+    pub fn new(rt: HostRuntime) -> Out {
+        Out {
+            rt,
+            written: Ok(()),
+        }
+    }
+
+    pub fn bytes(&mut self, bytes: &[u8]) {
+        if self.written.is_ok() {
+            self.written = self.rt.write_all(bytes);
+        }
+    }
+
+    pub fn decimal(&mut self, n: u64) {
+        if self.written.is_ok() {
+            self.written = self.rt.print(n);
+        }
+    }
+
+    pub fn end(self) -> io::Result<()> {
+        self.written
+    }
+}
