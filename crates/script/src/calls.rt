@@ -70,10 +70,8 @@ pub fn known_list() -> [u64; MOST_ENTRIES]
     ensures { MOST_ENTRIES ≡ length result }
 {
     let mut list = [0u64; MOST_ENTRIES];
-    let mut i: usize = 0;
-    while i < MOST_ENTRIES {
+    for i in 0..MOST_ENTRIES {
         list[i] = KNOWN + i as u64;
-        i += 1;
     }
     list
 }

@@ -129,7 +129,7 @@ pub fn between(out: &mut Out, answer: BetweenJudged) {
 
 // The bits of a float; a NaN has none of its own.
 fn bits(out: &mut Out, x: f32) {
-    if x != x {
+    if x.is_nan() {
         text(out, b" NaN");
     } else {
         number(out, widest(f32::to_bits(x)));
@@ -210,11 +210,9 @@ pub fn list(out: &mut Out, entries: &[u64]) {
 fn each_judgement(out: &mut Out, list: [Judgement; MOST_JUDGEMENTS], entries: usize)
     requires { entries ≤ 40 }
 {
-    let mut i: usize = 0;
-    while i < entries {
+    for i in 0..entries {
         let j = list[i];
         judgement(out, j);
-        i += 1;
     }
 }
 

@@ -33,10 +33,8 @@ fn known(i: usize) -> Judgement
 
 fn known_list() -> [Judgement; MOST_JUDGEMENTS] {
     let mut list = [known(0); MOST_JUDGEMENTS];
-    let mut i: usize = 0;
-    while i < MOST_JUDGEMENTS {
+    for i in 0..MOST_JUDGEMENTS {
         list[i] = known(i);
-        i += 1;
     }
     list
 }
