@@ -69,9 +69,10 @@ fn print_member(rt: &impl Print, session: Session, place: u64) -> io::Result<boo
 fn print_members(rt: &impl Print, session: Session) -> io::Result<()>
     requires { Valid session }
 {
-    let mut place: u64 = 1;
-    while place <= MOST_MEMBERS as u64 && print_member(rt, session, place)? {
-        place += 1;
+    for place in 1..=MOST_MEMBERS as u64 {
+        if !print_member(rt, session, place)? {
+            break;
+        }
     }
     Ok(())
 }
