@@ -13,7 +13,6 @@ use Rattle.files.proofs.Tests.{fails, holds}
 use Rattle.convert.specs.Convert.{heavy_fault, heavy_answer}
 use Rattle.convert.proofs.heavy_answer.Given as goal
 
-
 abbrev pub invariant-loop-i : goal.invariant-loop-i
 invariant-loop-i l = (l.i ≤ l.axles) × (l.answer ≡ Taken) × (first_fault 1 (each (heavy_fault l.wanted l.v) l.i) ≡ Taken)
 

@@ -9,7 +9,6 @@ use lib.Seq.{paste, paste-zero, paste-suc, length-paste}
 use Rattle.convert.specs.VehicleBytes.{LONGEST_FILE}
 use Rattle.convert.proofs.bytes.put_bytes.Given as goal
 
-
 abbrev pub invariant-loop-i : goal.invariant-loop-i
 invariant-loop-i l = (l.i ≤ l.n) × (l.out ≡ paste l.initial.out 0 l.bytes l.i)
 

@@ -12,7 +12,6 @@ use Rattle.convert.specs.VehicleBytes.{LONGEST_FILE, head_bytes, axles_bytes}
 use Rattle.convert.proofs.Files.{axle_written, all_written}
 use Rattle.convert.proofs.bytes.vehicle_bytes.Given as goal
 
-
 abbrev pub invariant-loop-i : goal.invariant-loop-i
 invariant-loop-i l = (l.i ≤ l.axles) × (take (VEHICLE_HEADER + axle_size l.version * l.i) l.row ≡ head_bytes l.version l.v ++ axles_bytes l.version l.v l.i)
 
