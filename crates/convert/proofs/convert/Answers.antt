@@ -11,6 +11,6 @@ returns c =
     let a = w.args in
     let worked = w.work_out-work.ensures in
     record {
-      is = worked.0;
-      out = c.put_bytes.ensures ∙ out_is a.wanted a.file.now a.out.now w.work_out-work.result.bytes w.work_out-work.result.length worked.1.0 worked.1.1.0;
+      is = worked.is;
+      out = c.put_bytes.ensures ∙ out_is a.wanted a.file.now a.out.now w.work_out-work.result.bytes w.work_out-work.result.length worked.bytes worked.length;
     }

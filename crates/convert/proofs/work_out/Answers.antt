@@ -53,13 +53,13 @@ returns-in-Taken c =
     let a = r.args in
     let p = all_passed a.wanted a.file.now a.room (sym (answered (goal.at.returns-in-Taken c).After-or_else-answer) ∙ c.in-Taken.is) in
     let v : r.read_given-read.result.vehicle ≡ vehicle_of a.file.now = ap (λ (x : VehicleRead). x.vehicle) r.read_given-read.ensures ∙ taken_vehicle _ _ p.taken in
-    let size = let both = sym (length_vehicle (wanted_version a.wanted) (vehicle_of a.file.now)) in
-    work_written a.wanted a.file.now a.room p c.vehicle_bytes.result
+    let size = sym (length_vehicle (wanted_version a.wanted) (vehicle_of a.file.now)) in
+    let both = work_written a.wanted a.file.now a.room p c.vehicle_bytes.result
     (rw (s.axle_size.ensures.is, w.wanted_version-version.ensures, v) size)
-    (rw (w.wanted_version-version.ensures, v) at c.vehicle_bytes.ensures) in record { is = both.0; bytes = both.1; length = both.2; cap = both.3 }
+    (rw (w.wanted_version-version.ensures, v) at c.vehicle_bytes.ensures) in record { is = both.0; bytes = both.1.0; length = both.1.1.0; cap = both.1.1.1 }
 
 pub returns-in-Refused : goal.returns-in-Refused
 returns-in-Refused c =
     let o = c in
     let a = o.args in
-    let both = work_refused a.wanted a.file.now a.room _ (sym (answered (goal.at.returns-in-Refused c).After-or_else-answer) ∙ c.in-Refused.is) c.refused_work.result.bytes c.refused_work.ensures.is c.refused_work.ensures.length in record { is = both.0; bytes = both.1; length = both.2; cap = both.3 }
+    let both = work_refused a.wanted a.file.now a.room _ (sym (answered (goal.at.returns-in-Refused c).After-or_else-answer) ∙ c.in-Refused.is) c.refused_work.result.bytes c.refused_work.ensures.is c.refused_work.ensures.length in record { is = both.0; bytes = both.1.0; length = both.1.1.0; cap = both.1.1.1 }

@@ -1,6 +1,6 @@
 -- `vehicle_bytes` meets its contract. The loop's invariant: the header and the first i axles are put.
 -- Assumes nothing.
-use Prim.Native.Nat.{◌+◌, ◌-◌, ◌*◌, ◌≤◌, ◌<◌}
+use Prim.Native.Nat.{ℕ, ◌+◌, ◌-◌, ◌*◌, ◌≤◌, ◌<◌}
 use mathlib.Core.Path.{◌≡◌, ◌∙◌}
 use mathlib.Core.List.{◌++◌, append-nil}
 use native.Mathlib.Omega.{arith}
@@ -21,13 +21,14 @@ few c = omega (arith, c.requires)
 sizes : (c : In-loop-i) → let s = c in (s.axle_size-size.result ≡ s.weight_bytes-width.result + 2)
 sizes c = let s = c in s.axle_size-size.ensures.is ∙ rw s.weight_bytes-width.ensures.is
 
+-- the bytes of i + 1 axles of such a size are within the longest file
+room_of : (size i : ℕ) → size ≤ LONGEST_AXLE → i + 1 ≤ 16 → VEHICLE_HEADER + size * i + size ≤ LONGEST_FILE
+room_of size i cap below =
+    let next : size * (i + 1) ≡ size * i + size = omega arith in
+    omega (arith, product_cap LONGEST_AXLE 16 cap below, next)
+
 room : (c : In-loop-i) → let size = c.axle_size-size.result in VEHICLE_HEADER + size * c.loop-i.i + size ≤ LONGEST_FILE
-room c =
-    let s = c in
-    let i = c.loop-i.i in
-    let below : i + 1 ≤ 16 = omega (arith, few c) in
-    let next : s.axle_size-size.result * (i + 1) ≡ s.axle_size-size.result * i + s.axle_size-size.result = omega arith in
-    omega (arith, product_cap LONGEST_AXLE 16 s.axle_size-size.ensures.cap below, next)
+room c = room_of _ _ c.axle_size-size.ensures.cap (omega (arith, few c))
 
 pub loop-i-init : goal.loop-i-init
 loop-i-init c =
@@ -35,16 +36,16 @@ loop-i-init c =
     (omega arith, rw (start, append-nil) c.head_bytes-row.ensures)
 
 pub overflow_mul-at : goal.overflow_mul-at
-overflow_mul-at c = record { fits = omega (arith, room c) }
+overflow_mul-at c = record { fits = omega (arith, room_of c.axle_size-size.result c.loop-i.i c.axle_size-size.ensures.cap (omega (arith, c.requires))) }
 
 pub overflow_add-at : goal.overflow_add-at
-overflow_add-at c = record { fits = omega (arith, room c) }
+overflow_add-at c = record { fits = omega (arith, room_of c.axle_size-size.result c.loop-i.i c.axle_size-size.ensures.cap (omega (arith, c.requires))) }
 
 pub offset_bounds-v-i : goal.offset_bounds-v-i
-offset_bounds-v-i c = record { fits = omega (arith, few c) }
+offset_bounds-v-i c = record { fits = omega (arith, c.requires) }
 
 pub bounds-v-i : goal.bounds-v-i
-bounds-v-i c = few c
+bounds-v-i c = omega (arith, c.requires)
 
 pub with_number-weighed-requires : goal.with_number-weighed-requires
 with_number-weighed-requires c = omega (arith, room (goal.at.with_number-weighed-requires c).In-loop-i, sizes (goal.at.with_number-weighed-requires c).In-loop-i)
