@@ -1,0 +1,24 @@
+-- `between::order::order_answer` meets its contract. The loop's invariant: none of the first i pairs of records has a fault.
+-- Assumes nothing.
+use Prim.Native.Nat.{ℕ, ◌-◌, ◌≤◌, ◌<◌}
+use mathlib.Core.Path.{◌≡◌, refl, sym, ap, ◌∙◌}
+use mathlib.Core.Bool.{Bool}
+use native.Mathlib.Omega.{arith}
+use borrow.Author.Rules.{rules}
+use Rattle.member.specs.Fields.{MOST_MEMBERS}
+use Rattle.rating.specs.Surveyed.{member_at}
+use Rattle.files.specs.Reading.{◌unless◌, first_fault}
+use Rattle.files.specs.Words.{each}
+use Rattle.files.specs.declared.Reading.TheVariants.{Taken}
+use Rattle.files.proofs.Faults.{clear_more, fault_at}
+use Rattle.files.proofs.Tests.{fails, holds}
+use Rattle.member.specs.declared.record.Survey.{Survey}
+use Rattle.between.specs.Order.{order_fault}
+use Rattle.between.proofs.Orders.{count_differs, count_alike}
+use Rattle.between.proofs.order.order_answer.Given as goal
+
+abbrev pub invariant-loop-i : goal.invariant-loop-i
+invariant-loop-i l = (l.i ≤ l.count) × (l.answer ≡ Taken) × (first_fault 1 (each (λ i. order_fault (member_at l.first.members i) (member_at l.second.members i)) l.i) ≡ Taken)
+
+abbrev pub decreases-loop-i : goal.decreases-loop-i
+decreases-loop-i l = l.count - l.i
