@@ -1,5 +1,5 @@
 -- What `judge_yard` ensures, as plain facts: `yard_answers` says what it found and `put_all` what the list then holds, and the three clauses
--- follow from the two. No step of the machine is mentioned: the walk of `judge_yard` cites this alone.
+-- follow from the two.
 -- Assumes nothing.
 use Prim.Native.Nat.{ℕ, zero, suc}
 use mathlib.Core.Path.{◌≡◌, refl, sym, ap, ◌∙◌}
@@ -37,9 +37,9 @@ Said s yard ys found zs =
     (yard_judged found.after ≡ judge_yard s yard (entries ys)) × ((entries zs ≡ yard_list s yard (entries ys)) × Valid found.after.session)
 
 pub yard_written : (s : Session) (yard : List ℕ) (ys : List Judgement) (found : YardAnswers) (zs : List Judgement) → Answered s yard (length ys) found →
-    zs ≡ take found.count found.answers ++ drop found.count ys → length zs ≡ length ys → Said s yard ys found zs
+    zs ≡ take found.count found.answers ++ drop found.count ys → Said s yard ys found zs
 unfolding judge_yard yard_list
-yard_written s yard ys found zs a e long =
+yard_written s yard ys found zs a e =
     let same = length-map ys judgement_answer in (
       a.is ∙ ap (λ (n : ℕ). record { session = s; answer = answered_yard s yard n }) (sym same),
       (rw (e, same) (written (answered_yard s yard (length ys)) s yard ys found.answers found.count a.count a.entries), a.valid),

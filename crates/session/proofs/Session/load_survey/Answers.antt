@@ -1,0 +1,24 @@
+-- `Session::load_survey` meets its contract: what was read decides, and only a file that was taken is stored.
+-- Assumes nothing.
+use Rattle.session.proofs.State.{survey_stored, survey_kept, valid_survey}
+use borrow.Author.Rules.{rules}
+use Rattle.session.proofs.Session.load_survey.Goals as goal
+
+pub returns-in-Taken : goal.returns-in-Taken
+returns-in-Taken c =
+    let r = c.read_survey-read in
+    let t = c.in-Taken.is in
+    let a = c.args in
+    record {
+      is = survey_stored a.self a.bytes.now r.result r.ensures t;
+      valid = rw r.ensures (valid_survey a.self a.bytes.now c.requires (rw r.ensures at t));
+    }
+
+pub returns-in-Refused : goal.returns-in-Refused
+returns-in-Refused c =
+    let r = c.read_survey-read in
+    let a = c.args in
+    record {
+      is = survey_kept a.self a.bytes.now r.result _ r.ensures c.in-Refused.is;
+      valid = c.requires;
+    }
