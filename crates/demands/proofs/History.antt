@@ -69,7 +69,7 @@ vehicle_alike s t bytes e =
     let r = vehicle_read s bytes e in
     (rw (vehicle_load t bytes r), rw (vehicle_load s bytes r, vehicle_load t bytes r))
 
-pub survey_last : {s : Session} {calls : List Call} (survey : List ℕ) → LastTakes TakesSurvey (LoadSurvey survey) s calls →
+pub survey_last : (survey : List ℕ) {s : Session} {calls : List Call} → LastTakes TakesSurvey (LoadSurvey survey) s calls →
     ((load_survey new_session survey).answer ≡ Values []) × ((after s calls).survey ≡ (load_survey new_session survey).session.survey)
 survey_last survey (here {s} {later} t none) =
     let alike = survey_alike s new_session survey t in
@@ -77,7 +77,7 @@ survey_last survey (here {s} {later} t none) =
 survey_last survey (further l) = survey_last survey l
 
 -- the session in which the last vehicle was taken, by whichever call: what that call then held is held at the end
-vehicle_since : {s : Session} {calls : List Call} (c : Call) → LastTakes TakesVehicle c s calls →
+vehicle_since : (c : Call) {s : Session} {calls : List Call} → LastTakes TakesVehicle c s calls →
     (t : Session) × TakesVehicle t c × ((after s calls).vehicle ≡ (next t c).vehicle)
 vehicle_since c (here {s} {later} t none) = (s, t, vehicle_stays (next s c) later none)
 vehicle_since c (further l) = vehicle_since c l
