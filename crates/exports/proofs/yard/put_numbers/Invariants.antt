@@ -1,0 +1,13 @@
+-- `put_numbers` meets its contract. The loop's invariant: the list has the numbers of the answers passed, and then what was there.
+use Prim.Native.Nat.{◌≤◌, ◌-◌}
+use mathlib.Core.Path.{◌≡◌, refl}
+use native.Mathlib.Omega.{arith}
+use lib.ListN.{length, length-set}
+use Rattle.exports.proofs.Rows.{rows, rows_length, turn}
+use Rattle.exports.proofs.yard.put_numbers.Given as goal
+
+abbrev pub invariant-loop-i : goal.invariant-loop-i
+invariant-loop-i l = (l.i ≤ l.count) × (l.list ≡ rows l.answers l.initial.list l.i)
+
+abbrev pub decreases-loop-i : goal.decreases-loop-i
+decreases-loop-i l = l.count - l.i
