@@ -1,5 +1,4 @@
-// The thin writer of a lent list of judgements. A list of structs is behind a reference, which the checker does not walk by itself: so
-// this crate has the one function that writes such a list, proved by hand, and what it writes is worked out elsewhere.
+// The thin writer of a lent list of judgements: the one function that writes such a list. What it writes is worked out elsewhere.
 #![tactic(auto)]
 
 ghost use Rattle.std.specs.Prelude.{◌≡◌, ◌++◌, ◌≤◌, ◌<◌, length, take, drop, get_or};

@@ -3,10 +3,10 @@
 -- same. All of it once, for every kind.
 -- Assumes nothing.
 use Prim.Native.Nat.{ℕ, ◌+◌, ◌-◌, ◌*◌, ◌/◌, ◌≤◌, ◌<◌}
-use mathlib.Core.Path.{◌≡◌, refl, ap, ap₂, sym, ◌∙◌}
-use native.Mathlib.Nat.{sub-eq-zero_of_le, sub-add_cancel, le_of_lt, le_antisymm, zero-div, zero-mul, mul-pos}
+use mathlib.Core.Path.{◌≡◌, ap, ap₂, sym, ◌∙◌}
+use native.Mathlib.Nat.{sub-eq-zero_of_le, sub-add_cancel, le_of_lt, zero-div, zero-mul, mul-pos}
 use native.Mathlib.Omega.{arith}
-use Rattle.section.specs.Fraction.{Fraction, Sound, over, whole, floor, ◌·◌, ◌÷◌, ◌⊕◌, ◌⊖◌, ◌⊑◌, ◌⊏◌, ◌≐◌, RoundedDown}
+use Rattle.section.specs.Fraction.{Fraction, Sound, over, whole, floor, ◌·◌, ◌÷◌, ◌⊕◌, ◌⊖◌, ◌⊑◌, ◌≐◌, RoundedDown}
 use Rattle.section.proofs.Order.{·_mono, ÷_mono, ⊖_mono, ⊑_refl, ·_sound, ÷_sound, ⊖_sound, sub_mul, whole_sound}
 use Rattle.section.proofs.Rounding.{rounded_down, floor_mono, floor_same}
 use Rattle.member.specs.Formula.{Formula, Positive, Valid, permitted, Permitted}

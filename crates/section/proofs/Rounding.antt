@@ -2,10 +2,10 @@
 -- order. The quotient of two whole numbers is all that they rest on.
 -- Assumes nothing.
 use Prim.Native.Nat.{ℕ, ◌+◌, ◌-◌, ◌*◌, ◌/◌, ◌≤◌, ◌<◌}
-use mathlib.Core.Path.{◌≡◌, refl}
+use mathlib.Core.Path.{◌≡◌}
 use native.Mathlib.Nat.{le_antisymm, le-div_iff_mul-le, div-lt_iff_lt-mul, le_of_suc-le-suc, lt-mul-div-succ, mul-div-le, mul-le-mul_right, le_of_mul-le-mul_right}
 use native.Mathlib.Omega.{arith}
-use Rattle.section.specs.Fraction.{Fraction, Sound, over, whole, floor, ceiling, ◌⊕◌, ◌⊑◌, ◌⊏◌, ◌≐◌, RoundedDown, RoundedUp}
+use Rattle.section.specs.Fraction.{Fraction, Sound, whole, floor, ceiling, ◌⊕◌, ◌⊑◌, ◌≐◌, RoundedDown, RoundedUp}
 use Rattle.section.proofs.Order.{≐_⊑, ≐_⊒}
 
 -- the quotient by itself: what the rest is read off

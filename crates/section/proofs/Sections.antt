@@ -1,6 +1,6 @@
 -- The net sections W, F and T never rise with rot or lost area.
 -- Assumes nothing.
-use Rattle.section.specs.Fraction.{Sound, whole, square, ◌⊑◌}
+use Rattle.section.specs.Fraction.{Sound, whole, ◌⊑◌}
 use Rattle.section.specs.Sawn.{sawn_modulus, sawn_area, area_left}
 use Rattle.section.proofs.Order.{⊑_refl, ·_mono, ÷_mono, ·_sound, ÷_sound, whole_sound, square_sound, whole_mono, square_mono}
 use Prim.Native.Nat.{ℕ, suc, ◌-◌, ◌*◌, ◌≤◌}

@@ -5,7 +5,7 @@ use mathlib.Core.Bool.{Bool, true, false}
 use native.Mathlib.Omega.{arith}
 use lib.Dec.{eqb}
 use Rattle.section.specs.Choose.{choose}
-use Rattle.section.specs.Fraction.{Fraction, Sound, over, whole, tenths, square, lesser, ◌·◌, ◌⊕◌, ◌⊑◌, ◌≐◌}
+use Rattle.section.specs.Fraction.{Fraction, Sound, over, whole, tenths, square, ◌·◌, ◌⊕◌, ◌⊑◌, ◌≐◌}
 use Rattle.section.specs.Dowel.{least_term, term_of, dowel_capacity, steel, nail, oak}
 use Rattle.section.proofs.Order.{⊑_refl, ·_mono, ⊕_mono, ·_sound, ⊕_sound, of_lesser, lesser_mono, lesser_scaled, whole_sound, tenths_sound, square_sound, whole_mono, square_mono}
 

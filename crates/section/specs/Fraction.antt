@@ -1,6 +1,6 @@
 -- Fractions of whole numbers. Document 01: "What is not rounded is a fraction of whole numbers with a divisor above 0, and
 -- two such are compared by multiplying out." That a divisor is above 0 is said by `Sound`, apart from the fraction.
-use Rattle.std.specs.Prelude.{ℕ, ◌+◌, ◌-◌, ◌*◌, ◌/◌, ◌≤◌, ◌<◌, ◌≡◌, Bool, true, false, leb}
+use Rattle.std.specs.Prelude.{ℕ, ◌+◌, ◌-◌, ◌*◌, ◌/◌, ◌≤◌, ◌<◌, ◌≡◌, Bool, leb}
 use Rattle.section.specs.Choose.{choose}
 
 infixl 70 ◌·◌ ◌÷◌

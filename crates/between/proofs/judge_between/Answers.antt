@@ -8,7 +8,6 @@ use Rattle.files.specs.declared.Reading.TheVariants.{Taken}
 use Rattle.files.specs.Reading.{first_refusal}
 use Rattle.between.specs.Between.{between_tests}
 use Rattle.between.proofs.Pairs.{taken_survey_allowed, read_count, read_few, tests_are, Passed, all_passed, same_count, verdict_given, refusal_given, list_filled, list_kept}
-use borrow.Author.Rules.{rules}
 use Rattle.between.proofs.judge_between.Goals as goal
 use Rattle.between.proofs.judge_between.Goals.{After-or_else-answer}
 

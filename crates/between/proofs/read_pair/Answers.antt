@@ -1,6 +1,5 @@
 -- `between::read_pair` meets its contract: the answers in a row, and what was read compared.
 -- Assumes nothing.
-use borrow.Author.Rules.{rules}
 use Rattle.between.proofs.Pairs.{read_few, pair_answer_lem}
 use Rattle.between.proofs.read_pair.Goals as goal
 

@@ -1,7 +1,6 @@
 -- `convert` meets its contract: the bytes that were worked out are put, none where the call is refused.
 -- Assumes nothing.
 use mathlib.Core.Path.{◌∙◌}
-use borrow.Author.Rules.{rules}
 use Rattle.convert.proofs.Converting.{out_is}
 use Rattle.convert.proofs.convert.Goals as goal
 

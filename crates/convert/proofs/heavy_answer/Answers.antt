@@ -1,13 +1,10 @@
 -- `heavy_answer` meets its contract. The loop's invariant: the first i weights fit.
 -- Assumes nothing.
-use Prim.Native.Nat.{◌-◌, ◌≤◌, ◌<◌}
+use Prim.Native.Nat.{◌<◌}
 use mathlib.Core.Path.{◌≡◌, refl, sym, ap, ◌∙◌}
 use mathlib.Core.Bool.{Bool}
 use native.Mathlib.Omega.{arith}
-use borrow.Author.Rules.{rules}
-use Rattle.files.specs.Reading.{◌unless◌, first_fault}
-use Rattle.files.specs.Words.{each}
-use Rattle.files.specs.declared.Reading.TheVariants.{Taken}
+use Rattle.files.specs.Reading.{◌unless◌}
 use Rattle.files.proofs.Faults.{clear_more, fault_at}
 use Rattle.files.proofs.Tests.{fails, holds}
 use Rattle.convert.specs.Convert.{heavy_fault, heavy_answer}

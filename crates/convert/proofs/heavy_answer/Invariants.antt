@@ -1,16 +1,11 @@
 -- `heavy_answer` meets its contract. The loop's invariant: the first i weights fit.
 -- Assumes nothing.
-use Prim.Native.Nat.{◌-◌, ◌≤◌, ◌<◌}
-use mathlib.Core.Path.{◌≡◌, refl, sym, ap, ◌∙◌}
-use mathlib.Core.Bool.{Bool}
-use native.Mathlib.Omega.{arith}
-use borrow.Author.Rules.{rules}
-use Rattle.files.specs.Reading.{◌unless◌, first_fault}
+use Prim.Native.Nat.{◌-◌, ◌≤◌}
+use mathlib.Core.Path.{◌≡◌}
+use Rattle.files.specs.Reading.{first_fault}
 use Rattle.files.specs.Words.{each}
 use Rattle.files.specs.declared.Reading.TheVariants.{Taken}
-use Rattle.files.proofs.Faults.{clear_more, fault_at}
-use Rattle.files.proofs.Tests.{fails, holds}
-use Rattle.convert.specs.Convert.{heavy_fault, heavy_answer}
+use Rattle.convert.specs.Convert.{heavy_fault}
 use Rattle.convert.proofs.heavy_answer.Given as goal
 
 abbrev pub invariant-loop-i : goal.invariant-loop-i

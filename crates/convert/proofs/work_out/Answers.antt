@@ -3,7 +3,6 @@
 use Prim.Native.Nat.{◌≤◌}
 use mathlib.Core.Path.{◌≡◌, sym, ap, ◌∙◌}
 use native.Mathlib.Omega.{arith}
-use borrow.Author.Rules.{rules}
 use Rattle.section.proofs.Products.{product_cap, product_fits}
 use Rattle.member.specs.Fields.{MOST_AXLES}
 use Rattle.files.specs.Reading.{first_refusal}

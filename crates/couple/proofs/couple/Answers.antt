@@ -1,7 +1,6 @@
 -- `couple` meets its contract: the tests are the definition's row, and what is coupled is what was read.
 -- Assumes nothing.
 use mathlib.Core.Path.{◌≡◌, sym, ◌∙◌}
-use borrow.Author.Rules.{rules}
 use Rattle.files.specs.Reading.{first_refusal}
 use Rattle.vehicles.proofs.Vehicles.{few_axles, padded_read}
 use Rattle.couple.specs.Couple.{couple_tests, couple}

@@ -1,13 +1,11 @@
 -- `coupled` meets its contract. The loop's invariant: the first's axles and the first i of the second are the coupled vehicle's, and 0 stands after
 -- them.
 -- Assumes nothing.
-use Prim.Native.Nat.{◌+◌, ◌-◌, ◌≤◌, ◌<◌}
+use Prim.Native.Nat.{◌+◌, ◌<◌}
 use mathlib.Core.Path.{◌≡◌, refl}
 use native.Mathlib.Omega.{arith}
-use borrow.Author.Rules.{rules}
 use Rattle.member.specs.Fields.{MOST_AXLES}
-use Rattle.member.specs.declared.record.Vehicle.{Vehicle}
-use Rattle.couple.proofs.Axles.{weights_to, distances_to, weights_ahead, distances_ahead, weight_put, distance_put}
+use Rattle.couple.proofs.Axles.{weights_ahead, distances_ahead, weight_put, distance_put}
 use Rattle.couple.proofs.coupled.Goals as goal
 use Rattle.couple.proofs.coupled.Goals.{In-loop-i}
 

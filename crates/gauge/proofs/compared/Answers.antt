@@ -3,7 +3,6 @@
 use mathlib.Core.Path.{◌≡◌, sym, ◌∙◌}
 use mathlib.Core.Bool.{true}
 use native.Mathlib.Omega.{arith}
-use borrow.Author.Rules.{rules}
 use Rattle.section.specs.Fraction.{at_most}
 use Rattle.member.specs.Fields.{SPAN}
 use Rattle.member.proofs.Ranges.{number_cap}

@@ -1,7 +1,6 @@
 -- `gauge` meets its contract: a refusal answers itself; else no test fails.
 -- Assumes nothing.
 use mathlib.Core.Path.{sym, ◌∙◌}
-use borrow.Author.Rules.{rules}
 use Rattle.gauge.specs.Gauge.{gauged}
 use Rattle.gauge.specs.Fault.{MayBeGauged}
 use Rattle.gauge.proofs.Refusals.{taken_good}

@@ -5,7 +5,6 @@ use mathlib.Core.Path.{◌≡◌, ap}
 use mathlib.Core.List.{[], ◌∷◌}
 use mathlib.Core.Logic.{inl, inr}
 use lib.Dec.{leb}
-use borrow.Author.Rules.{rules}
 use Rattle.files.specs.Reading.{◌unless◌, first_fault, or_else, test}
 use Rattle.gauge.specs.Whole.{counted_of}
 use Rattle.gauge.specs.Gauge.{reading_tests}

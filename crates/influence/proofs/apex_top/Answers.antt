@@ -2,17 +2,15 @@
 -- beyond the apex by the distances passed, so that the next axle comes to stand over the apex. The inner loop's: the sum is that of the
 -- axles passed, and the place is the front axle's less the distances passed.
 -- Assumes nothing.
-use Prim.Native.Nat.{◌≤◌, ◌+◌, ◌*◌, ◌-◌}
+use Prim.Native.Nat.{◌+◌, ◌*◌}
 use mathlib.Core.Path.{◌≡◌, refl, sym, ◌∙◌}
-use mathlib.Core.Logic.{⊎_elim}
 use native.Mathlib.Omega.{arith}
-use borrow.Author.Rules.{rules}
 use Rattle.section.specs.Units.{weight}
 use Rattle.section.proofs.Products.{product_fits}
 use Rattle.influence.specs.Influence.{total, behind}
 use Rattle.section.specs.Greatest.{top}
 use Rattle.influence.specs.Scaled.{scaled_sum, apex_top}
-use Rattle.influence.proofs.Steps.{passed, passed_next, passed_cap, behind_passed, sum_next, sum_rest, height_cap, sum_cap, top_of, apex_next}
+use Rattle.influence.proofs.Steps.{passed_next, passed_cap, behind_passed, sum_next, sum_rest, height_cap, sum_cap, apex_next}
 use Rattle.influence.proofs.apex_top.Goals.{else-loop-i-test, then-loop-i-test+then-place-eq0}
 use Rattle.influence.proofs.apex_top.Goals as goal
 

@@ -4,7 +4,6 @@ use Prim.Native.Nat.{◌*◌}
 use mathlib.Core.Path.{ap, ◌∙◌}
 use native.Mathlib.Nat.{mul-pos, div-le_self, lt_of_le_of_lt}
 use native.Mathlib.Omega.{arith}
-use borrow.Author.Rules.{rules}
 use Rattle.section.specs.Fraction.{over, ceiling}
 use Rattle.influence.proofs.Scaled.{divisor_above_0}
 use Rattle.section.proofs.Products.{product_fits, product_cap}

@@ -1,6 +1,5 @@
 -- `influence::scaled_height` meets its contract: the branches are the two sides of the triangle.
 -- Assumes nothing.
-use borrow.Author.Rules.{rules}
 use mathlib.Core.Path.{sym}
 use native.Mathlib.Nat.{le_of_lt}
 use native.Mathlib.Omega.{arith}

@@ -2,7 +2,6 @@
 -- Greatest), rounded up.
 -- Assumes nothing.
 use native.Mathlib.Omega.{arith}
-use borrow.Author.Rules.{rules}
 use Rattle.influence.proofs.Steps.{apex_top_cap, mirrored_bounded}
 use Rattle.influence.proofs.Load.{load_from_tops}
 use Rattle.influence.proofs.vehicle_load.Goals as goal

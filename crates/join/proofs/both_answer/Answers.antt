@@ -1,7 +1,6 @@
 -- `both_answer` meets its contract: the pair's tests, then the room for as many bytes as the first survey's count says.
 -- Assumes nothing.
 use native.Mathlib.Omega.{arith}
-use borrow.Author.Rules.{rules}
 use Rattle.join.proofs.Pairs.{length_output}
 use Rattle.join.proofs.both_answer.Goals as goal
 

@@ -3,7 +3,6 @@
 use mathlib.Core.Path.{◌≡◌, sym, ◌∙◌}
 use native.Mathlib.Omega.{arith}
 use lib.ListN.{length}
-use borrow.Author.Rules.{rules}
 use Rattle.files.specs.declared.Reading.TheVariants.{Taken}
 use Rattle.surveys.proofs.Surveys.{taken_allowed}
 use Rattle.join.proofs.Pairs.{pair_count, length_output, Passed, all_passed, written_given, refusal_given, out_written, out_kept}

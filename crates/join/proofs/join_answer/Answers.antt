@@ -1,7 +1,6 @@
 -- `join_answer` meets its contract: where a file is refused that is the answer, else both are allowed and the tests of the pair decide.
 -- Assumes nothing.
 use mathlib.Core.Path.{◌≡◌, sym, ◌∙◌}
-use borrow.Author.Rules.{rules}
 use Rattle.files.specs.Reading.{or_else}
 use Rattle.surveys.specs.SurveyFile.{read_survey}
 use Rattle.files.proofs.Faults.{both_taken}

@@ -1,16 +1,10 @@
 -- `pair_answer` meets its contract. The loop's invariant: none of the first i pairs of records has a fault.
 -- Assumes nothing.
-use Prim.Native.Nat.{◌+◌, ◌-◌, ◌*◌, ◌≤◌, ◌<◌}
-use mathlib.Core.Path.{◌≡◌, refl, sym, ap₂, ◌∙◌}
-use native.Mathlib.Omega.{arith}
-use lib.ListN.{length}
+use Prim.Native.Nat.{◌-◌, ◌≤◌}
+use mathlib.Core.Path.{◌≡◌}
 use Rattle.files.specs.Reading.{first_fault}
-use Rattle.surveys.specs.SurveyFile.{SURVEY_HEADER, RECORD, count_of}
 use Rattle.files.specs.declared.Reading.TheVariants.{Taken}
-use Rattle.files.proofs.Faults.{clear_more, fault_at}
-use Rattle.join.specs.Join.{join_fault, pair_fault, pair_faults}
-use Rattle.join.proofs.Pairs.{count_differs, count_alike}
-use borrow.Author.Rules.{rules}
+use Rattle.join.specs.Join.{pair_faults}
 use Rattle.join.proofs.pair_answer.Given as goal
 
 abbrev pub invariant-loop-i : goal.invariant-loop-i

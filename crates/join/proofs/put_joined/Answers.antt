@@ -1,12 +1,11 @@
 -- `put_joined` meets its contract. The loop's invariant: behind the header the first i joined records are put.
 -- Assumes nothing.
-use Prim.Native.Nat.{◌+◌, ◌-◌, ◌*◌, ◌≤◌, ◌<◌}
+use Prim.Native.Nat.{◌+◌, ◌*◌, ◌≤◌, ◌<◌}
 use mathlib.Core.Path.{◌≡◌, ap₂, ◌∙◌}
 use mathlib.Core.List.{[]}
 use native.Mathlib.Omega.{arith}
 use lib.ListN.{length}
 use lib.Seq.{paste, paste-zero, length-paste}
-use borrow.Author.Rules.{rules}
 use Rattle.surveys.specs.SurveyFile.{SURVEY_HEADER, RECORD, count_of}
 use Rattle.join.specs.Join.{joined_member, joined_at}
 use Rattle.join.specs.SurveyBytes.{head_bytes}

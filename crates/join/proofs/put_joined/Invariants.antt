@@ -1,17 +1,11 @@
 -- `put_joined` meets its contract. The loop's invariant: behind the header the first i joined records are put.
 -- Assumes nothing.
-use Prim.Native.Nat.{◌+◌, ◌-◌, ◌*◌, ◌≤◌, ◌<◌}
-use mathlib.Core.Path.{◌≡◌, ap₂, ◌∙◌}
-use mathlib.Core.List.{[]}
-use native.Mathlib.Omega.{arith}
-use lib.ListN.{length}
-use lib.Seq.{paste, paste-zero, length-paste}
-use borrow.Author.Rules.{rules}
-use Rattle.surveys.specs.SurveyFile.{SURVEY_HEADER, RECORD, count_of}
-use Rattle.join.specs.Join.{joined_member, joined_at}
-use Rattle.join.specs.SurveyBytes.{head_bytes}
-use Rattle.join.proofs.Pairs.{length_output}
-use Rattle.join.proofs.Surveys.{records, length_records, record_put, survey_put}
+use Prim.Native.Nat.{◌-◌, ◌*◌, ◌≤◌}
+use mathlib.Core.Path.{◌≡◌}
+use lib.Seq.{paste}
+use Rattle.surveys.specs.SurveyFile.{SURVEY_HEADER, RECORD}
+use Rattle.join.specs.Join.{joined_at}
+use Rattle.join.proofs.Surveys.{records}
 use Rattle.join.proofs.put_joined.Given as goal
 
 abbrev pub invariant-loop-i : goal.invariant-loop-i

@@ -1,5 +1,5 @@
 -- A turn stores the answer at i over what stood there.
-use Rattle.std.proofs.Common.{◌≡◌, ℕ, zero, suc, ◌+◌, ◌<◌, ◌++◌, List, [], ◌∷◌, length, get_or, take, drop, ap, arith, add-one, length-append, length-drop}
+use Rattle.std.proofs.Common.{◌≡◌, ℕ, zero, suc, ◌<◌, ◌++◌, List, [], ◌∷◌, length, get_or, take, drop, ap, arith, add-one}
 use Rattle.std.proofs.Math.ListN.{set}
 use native.Mathlib.Nat.{le_of_suc-le-suc, not-suc-le-zero}
 use Rattle.rating.specs.declared.judging.Judgement.{Judgement}

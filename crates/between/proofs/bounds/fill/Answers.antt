@@ -2,7 +2,6 @@
 -- Assumes nothing.
 use mathlib.Core.Path.{◌≡◌, ◌∙◌}
 use native.Mathlib.Omega.{arith}
-use borrow.Author.Rules.{rules}
 use Rattle.between.proofs.Lists.{bounds_length, bounds_same, written_permitted}
 use Rattle.between.proofs.bounds.fill.Goals as goal
 

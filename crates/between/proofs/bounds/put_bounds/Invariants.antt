@@ -1,12 +1,9 @@
 -- `between::bounds::put_bounds` meets its contract. The loop's invariant: the list is that of the members passed.
 -- Assumes nothing.
-use Prim.Native.Nat.{◌*◌, ◌-◌, ◌≤◌, ◌<◌}
+use Prim.Native.Nat.{◌*◌, ◌-◌, ◌≤◌}
 use mathlib.Core.Path.{◌≡◌}
-use native.Mathlib.Omega.{arith}
-use lib.ListN.{length, get_or, length-set}
-use Rattle.member.specs.Fields.{MOST_MEMBERS}
+use lib.ListN.{get_or}
 use Rattle.between.specs.Between.{bounds_written}
-use Rattle.between.proofs.Lists.{bounds_none, bounds_next, bounds_length}
 use Rattle.between.proofs.bounds.put_bounds.Given as goal
 
 abbrev pub invariant-loop-i : goal.invariant-loop-i

@@ -1,13 +1,10 @@
 -- `between::order::is_ordered` meets its contract. The loop's invariant: `good` is the test of the fields passed.
 -- Assumes nothing.
 use Prim.Native.Nat.{◌-◌, ◌≤◌}
-use mathlib.Core.Path.{◌≡◌, refl}
-use native.Mathlib.Numerals.{add-one}
-use native.Mathlib.Omega.{arith}
-use borrow.Author.Rules.{rules}
+use mathlib.Core.Path.{◌≡◌}
 use Rattle.section.specs.Choose.{all}
 use Rattle.member.specs.Fields.{FIELDS}
-use Rattle.between.specs.Order.{field_ordered, ordered}
+use Rattle.between.specs.Order.{field_ordered}
 use Rattle.between.proofs.order.is_ordered.Given as goal
 
 abbrev pub invariant-loop-f : goal.invariant-loop-f

@@ -1,7 +1,6 @@
 -- `between::order::may_grow` meets its contract: the dead load is neither rot nor lost area, whatever the section.
 -- Assumes nothing.
 use Rattle.between.proofs.Orders.{may_grow_is}
-use borrow.Author.Rules.{rules}
 use Rattle.between.proofs.order.may_grow.Goals as goal
 
 pub returns : goal.returns

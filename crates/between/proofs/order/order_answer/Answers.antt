@@ -1,15 +1,12 @@
 -- `between::order::order_answer` meets its contract. The loop's invariant: none of the first i pairs of records has a fault.
 -- Assumes nothing.
-use Prim.Native.Nat.{ℕ, ◌-◌, ◌≤◌, ◌<◌}
+use Prim.Native.Nat.{ℕ, ◌<◌}
 use mathlib.Core.Path.{◌≡◌, refl, sym, ap, ◌∙◌}
 use mathlib.Core.Bool.{Bool}
 use native.Mathlib.Omega.{arith}
-use borrow.Author.Rules.{rules}
 use Rattle.member.specs.Fields.{MOST_MEMBERS}
 use Rattle.rating.specs.Surveyed.{member_at}
-use Rattle.files.specs.Reading.{◌unless◌, first_fault}
-use Rattle.files.specs.Words.{each}
-use Rattle.files.specs.declared.Reading.TheVariants.{Taken}
+use Rattle.files.specs.Reading.{◌unless◌}
 use Rattle.files.proofs.Faults.{clear_more, fault_at}
 use Rattle.files.proofs.Tests.{fails, holds}
 use Rattle.member.specs.declared.record.Survey.{Survey}

@@ -1,20 +1,12 @@
 -- `between::order::order_answer` meets its contract. The loop's invariant: none of the first i pairs of records has a fault.
 -- Assumes nothing.
-use Prim.Native.Nat.{ℕ, ◌-◌, ◌≤◌, ◌<◌}
-use mathlib.Core.Path.{◌≡◌, refl, sym, ap, ◌∙◌}
-use mathlib.Core.Bool.{Bool}
-use native.Mathlib.Omega.{arith}
-use borrow.Author.Rules.{rules}
-use Rattle.member.specs.Fields.{MOST_MEMBERS}
+use Prim.Native.Nat.{◌-◌, ◌≤◌}
+use mathlib.Core.Path.{◌≡◌}
 use Rattle.rating.specs.Surveyed.{member_at}
-use Rattle.files.specs.Reading.{◌unless◌, first_fault}
+use Rattle.files.specs.Reading.{first_fault}
 use Rattle.files.specs.Words.{each}
 use Rattle.files.specs.declared.Reading.TheVariants.{Taken}
-use Rattle.files.proofs.Faults.{clear_more, fault_at}
-use Rattle.files.proofs.Tests.{fails, holds}
-use Rattle.member.specs.declared.record.Survey.{Survey}
 use Rattle.between.specs.Order.{order_fault}
-use Rattle.between.proofs.Orders.{count_differs, count_alike}
 use Rattle.between.proofs.order.order_answer.Given as goal
 
 abbrev pub invariant-loop-i : goal.invariant-loop-i

@@ -1,5 +1,4 @@
 -- `is_marked` meets its contract: the version is the word that the callee gives.
-use borrow.Author.Rules.{rules}
 use Rattle.files.specs.Header.{marked}
 use Rattle.files.proofs.header.is_marked.Goals as goal
 

@@ -1,11 +1,11 @@
 -- `put_number` meets its contract. The loop's invariant: the first i bytes are put, and what is left of the number has the bytes that are left.
 -- Assumes nothing.
-use Prim.Native.Nat.{suc, ◌-◌, ◌≤◌, ◌<◌}
+use Prim.Native.Nat.{suc, ◌-◌, ◌<◌}
 use mathlib.Core.Path.{◌≡◌}
 use native.Mathlib.Numerals.{add-one}
 use native.Mathlib.Omega.{arith}
-use lib.ListN.{length, drop}
-use lib.Seq.{paste, paste-zero, paste-suc, length-paste}
+use lib.ListN.{length}
+use lib.Seq.{paste-zero, paste-suc, length-paste}
 use Rattle.files.specs.Words.{bytes_of}
 use Rattle.files.proofs.Numbers.{length_bytes, next_byte}
 use Rattle.files.proofs.output.put_number.Goals as goal

@@ -1,11 +1,10 @@
 -- `words` meets its contract. The invariant: the row holds the first i words, and 0 after them. A store makes it one word more.
-use Prim.Native.Nat.{◌+◌, ◌*◌, ◌-◌, ◌≤◌}
+use Prim.Native.Nat.{◌+◌, ◌*◌}
 use mathlib.Core.Path.{◌≡◌, refl}
-use mathlib.Core.List.{◌++◌, append-nil}
+use mathlib.Core.List.{append-nil}
 use native.Mathlib.Omega.{arith}
-use lib.ListN.{replicate}
 use Rattle.member.specs.Fields.{FIELDS}
-use Rattle.files.specs.Words.{word_at, words}
+use Rattle.files.specs.Words.{word_at}
 use Rattle.files.proofs.Each.{store_each}
 use Rattle.files.proofs.words.words.Goals as goal
 

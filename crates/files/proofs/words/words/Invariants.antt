@@ -1,12 +1,10 @@
 -- `words` meets its contract. The invariant: the row holds the first i words, and 0 after them. A store makes it one word more.
-use Prim.Native.Nat.{◌+◌, ◌*◌, ◌-◌, ◌≤◌}
-use mathlib.Core.Path.{◌≡◌, refl}
-use mathlib.Core.List.{◌++◌, append-nil}
-use native.Mathlib.Omega.{arith}
+use Prim.Native.Nat.{◌-◌, ◌≤◌}
+use mathlib.Core.Path.{◌≡◌}
+use mathlib.Core.List.{◌++◌}
 use lib.ListN.{replicate}
 use Rattle.member.specs.Fields.{FIELDS}
-use Rattle.files.specs.Words.{word_at, words}
-use Rattle.files.proofs.Each.{store_each}
+use Rattle.files.specs.Words.{words}
 use Rattle.files.proofs.words.words.Given as goal
 
 abbrev pub invariant-loop-i : goal.invariant-loop-i

@@ -2,7 +2,6 @@
 -- Assumes nothing.
 use Prim.Native.Nat.{◌≤◌}
 use native.Mathlib.Omega.{arith}
-use borrow.Author.Rules.{rules}
 use Rattle.section.proofs.Products.{product_fits, product_cap}
 use Rattle.gauge.proofs.Limits.{within_over, divisor_cap, fifths_cap}
 use Rattle.gauge.proofs.limit.is_within.Goals as goal

@@ -8,7 +8,6 @@ use lib.Dec.{T}
 use lib.Ieee.{Float, binary32, ne, to_bits, of_bits}
 use lib.Ieee.Bits.{of_bits-to_bits}
 use lib.Ieee.Compare.{differs_from_itself}
-use borrow.Author.Rules.{rules}
 use borrow.Author.Tests.{eq-eqb, ne_eqb}
 use Rattle.section.specs.Fraction.{over, whole, ◌·◌, floor}
 use Rattle.gauge.specs.Value.{value_of, is_reading}

@@ -1,12 +1,11 @@
 -- `put_record` meets its contract. The loop's invariant: the first f numbers are put.
 -- Assumes nothing.
-use Prim.Native.Nat.{◌+◌, ◌-◌, ◌*◌, ◌≤◌}
+use Prim.Native.Nat.{◌+◌, ◌*◌, ◌≤◌}
 use mathlib.Core.Path.{◌≡◌}
 use native.Mathlib.Omega.{arith}
 use lib.ListN.{length}
-use lib.Seq.{paste, paste-zero, length-paste}
+use lib.Seq.{paste-zero, length-paste}
 use Rattle.member.specs.Fields.{FIELDS}
-use borrow.Author.Rules.{rules}
 use Rattle.join.proofs.Surveys.{numbers, length_numbers, number_put}
 use Rattle.join.proofs.bytes.put_record.Goals as goal
 use Rattle.join.proofs.bytes.put_record.Goals.{At-loop-f, In-loop-f}

@@ -1,15 +1,10 @@
 -- `join_fault` meets its contract. The loop's invariant: `agreed` and `close` are the tests of the fields passed.
 -- Assumes nothing.
 use Prim.Native.Nat.{◌-◌, ◌≤◌}
-use mathlib.Core.Path.{◌≡◌, refl, sym, ◌∙◌}
-use native.Mathlib.Numerals.{add-one}
-use native.Mathlib.Omega.{arith}
-use borrow.Author.Rules.{rules}
-use borrow.Author.Tests.{not-true, not-false}
+use mathlib.Core.Path.{◌≡◌}
 use Rattle.section.specs.Choose.{all}
 use Rattle.member.specs.Fields.{FIELDS}
 use Rattle.join.specs.Join.{field_agrees, field_near}
-use Rattle.join.proofs.Records.{must_agree_first, too_far_next, no_fault}
 use Rattle.join.proofs.record.join_fault.Given as goal
 
 abbrev pub invariant-loop-f : goal.invariant-loop-f

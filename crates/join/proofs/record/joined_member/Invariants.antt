@@ -1,15 +1,12 @@
 -- `joined_member` meets its contract. The loop's invariant: the row holds the first f joined numbers, and 0 after them.
 -- Assumes nothing.
-use Prim.Native.Nat.{ℕ, ◌-◌, ◌≤◌}
-use mathlib.Core.Path.{◌≡◌, refl, ap}
-use mathlib.Core.List.{List, ◌++◌, append-nil}
-use native.Mathlib.Omega.{arith}
+use Prim.Native.Nat.{◌-◌, ◌≤◌}
+use mathlib.Core.Path.{◌≡◌}
+use mathlib.Core.List.{◌++◌}
 use lib.ListN.{replicate}
-use borrow.Author.Rules.{rules}
 use Rattle.member.specs.Fields.{FIELDS}
 use Rattle.files.specs.Words.{each}
-use Rattle.files.proofs.Each.{store_each}
-use Rattle.join.specs.Join.{joined_field, joined_member}
+use Rattle.join.specs.Join.{joined_field}
 use Rattle.join.proofs.record.joined_member.Given as goal
 
 abbrev pub invariant-loop-f : goal.invariant-loop-f

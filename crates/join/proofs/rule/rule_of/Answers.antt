@@ -2,7 +2,6 @@
 -- Assumes nothing.
 use borrow.Author.Tests.{ne_eqb}
 use Rattle.join.specs.Rule.{rule_of}
-use borrow.Author.Rules.{rules}
 use Rattle.join.proofs.rule.rule_of.Goals as goal
 
 pub returns-in-2 : goal.returns-in-2

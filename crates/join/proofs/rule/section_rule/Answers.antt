@@ -1,6 +1,5 @@
 -- `section_rule` meets its contract: the tests in the order of the definition.
 -- Assumes nothing.
-use borrow.Author.Rules.{rules}
 use Rattle.join.specs.Rule.{section_rule}
 use Rattle.join.proofs.rule.section_rule.Goals as goal
 

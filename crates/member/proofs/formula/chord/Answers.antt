@@ -7,7 +7,6 @@ use native.Mathlib.Omega.{arith}
 use Rattle.member.specs.PermittedLoad.{distribution}
 use Rattle.section.proofs.Products.{product_fits, product_cap}
 use Rattle.member.proofs.Whole.{chord_whole}
-use borrow.Author.Rules.{rules}
 use Rattle.member.proofs.formula.chord.Goals as goal
 
 pub overflow_mul-m : goal.overflow_mul-m

@@ -8,7 +8,6 @@ use Rattle.section.specs.Fraction.{over, floor}
 use Rattle.section.proofs.Products.{product_fits, product_cap}
 use Rattle.member.proofs.Divisors.{half_fits}
 use Rattle.member.proofs.Whole.{close_stringer_whole}
-use borrow.Author.Rules.{rules}
 use Rattle.member.proofs.formula.close_stringer.Goals as goal
 
 pub overflow_mul-m : goal.overflow_mul-m

@@ -4,7 +4,6 @@ use native.Mathlib.Nat.{div-div-eq-div-mul, div-le_self, lt_of_le_of_lt}
 use native.Mathlib.Omega.{arith}
 use Rattle.section.specs.Fraction.{over, floor}
 use Rattle.member.proofs.Divisors.{Divisor, divisor, share_fits}
-use borrow.Author.Rules.{rules}
 use Rattle.member.proofs.formula.distributed.Goals as goal
 
 spread : (c : goal.After-struct_known-1) → Divisor c.args.n c.args.d.0 c.lesser-e.result

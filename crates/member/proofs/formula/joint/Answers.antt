@@ -7,7 +7,6 @@ use native.Mathlib.Omega.{arith}
 use Rattle.member.specs.PermittedLoad.{distribution}
 use Rattle.section.proofs.Products.{product_fits, product_cap}
 use Rattle.member.proofs.Whole.{joint_whole}
-use borrow.Author.Rules.{rules}
 use Rattle.member.proofs.formula.joint.Goals as goal
 
 pub overflow_mul-m : goal.overflow_mul-m

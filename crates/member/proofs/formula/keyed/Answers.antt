@@ -5,7 +5,6 @@ use native.Mathlib.Omega.{arith}
 use Rattle.section.specs.Fraction.{over, whole, tenths, ◌·◌}
 use Rattle.member.specs.Formula.{keyed}
 use Rattle.section.proofs.Products.{product_fits, product_cap}
-use borrow.Author.Rules.{rules}
 use Rattle.member.proofs.formula.keyed.Goals as goal
 
 pub overflow_mul-result-2 : goal.overflow_mul-result-2

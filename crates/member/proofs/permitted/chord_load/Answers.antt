@@ -5,7 +5,6 @@ use mathlib.Core.Path.{refl}
 use Rattle.member.specs.Format.{used, unused_by_kind, unused_by_code, suits, bending}
 use Rattle.member.proofs.Quantities.{sizes, species, spacing, height, inside}
 use Rattle.member.proofs.Falling.{chord_load}
-use borrow.Author.Rules.{rules}
 use Rattle.member.proofs.permitted.chord_load.Goals as goal
 
 pub bending-requires : goal.bending-requires

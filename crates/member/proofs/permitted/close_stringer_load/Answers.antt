@@ -10,7 +10,6 @@ use Rattle.member.specs.PermittedLoad.{beta_of}
 use Rattle.member.proofs.EachKind.{close_stringer_valid, close_stringer_same, over_positive}
 use Rattle.member.proofs.Quantities.{sizes, species, close, span_positive, load_factor_positive, valid_close}
 use Rattle.member.proofs.Falling.{close_load}
-use borrow.Author.Rules.{rules}
 use Rattle.member.proofs.permitted.close_stringer_load.Goals as goal
 
 pub modulus_thirtieths-requires : goal.modulus_thirtieths-requires

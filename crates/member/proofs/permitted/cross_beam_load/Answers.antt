@@ -7,7 +7,6 @@ use Rattle.member.specs.Format.{used, unused_by_kind, unused_by_code, suits, ben
 use Rattle.member.proofs.EachKind.{cross_beam_valid, cross_beam_same, whole_positive}
 use Rattle.member.proofs.Quantities.{sizes, species, panel, span_positive, load_factor_positive, valid_cross_beam}
 use Rattle.member.proofs.Falling.{cross_beam_load}
-use borrow.Author.Rules.{rules}
 use Rattle.member.proofs.permitted.cross_beam_load.Goals as goal
 
 pub modulus_thirtieths-requires : goal.modulus_thirtieths-requires

@@ -6,7 +6,6 @@ use borrow.Author.Tests.{eq-eqb, ne_eqb}
 use Rattle.member.specs.Fields.{CODE, field}
 use Rattle.member.specs.PermittedLoad.{section_inertia}
 use Rattle.member.proofs.Allowed.{log_sizes, sawn_sizes, code_of_close}
-use borrow.Author.Rules.{rules}
 use Rattle.member.proofs.permitted.inertia.Goals as goal
 
 -- code 1

@@ -5,7 +5,6 @@ use borrow.Author.Tests.{ne_eqb}
 use Rattle.member.specs.Fields.{CODE, field}
 use Rattle.member.specs.PermittedLoad.{net_area}
 use Rattle.member.proofs.Allowed.{area_code, area_size}
-use borrow.Author.Rules.{rules}
 use Rattle.member.proofs.permitted.joint_area.Goals as goal
 
 pub returns : goal.returns

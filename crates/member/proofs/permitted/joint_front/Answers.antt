@@ -10,7 +10,6 @@ use Rattle.member.specs.PermittedLoad.{joint_front}
 use Rattle.member.proofs.Allowed.{dowel_code, dowel_sizes}
 use Rattle.member.proofs.Quantities.{species, height}
 use Rattle.member.proofs.Falling.{joint, dowelled_same}
-use borrow.Author.Rules.{rules}
 use Rattle.member.proofs.permitted.joint_front.Goals as goal
 
 four : (c : goal.After-capacity) → field c.args.m KIND ≡ 4

@@ -8,7 +8,6 @@ use Rattle.member.specs.Fields.{SPAN, MU_B, field}
 use Rattle.member.proofs.EachKind.{joint_valid, joint_same, over_positive, rest_positive, whole_positive}
 use Rattle.member.proofs.Quantities.{sizes, load_factor_positive, distribution_positive, valid_joint}
 use Rattle.member.proofs.Falling.{joint, joint_load}
-use borrow.Author.Rules.{rules}
 use Rattle.member.proofs.permitted.joint_load.Goals as goal
 
 pub joint-requires : goal.joint-requires

@@ -12,7 +12,6 @@ use Rattle.section.proofs.Sections.{tiered_modulus_cap}
 use Rattle.member.specs.Fields.{CODE, S1, S2, S3, field}
 use Rattle.member.specs.PermittedLoad.{section_modulus}
 use Rattle.member.proofs.Allowed.{LogSizes, log_sizes, crescent_sizes, sawn_sizes, code_in_bending}
-use borrow.Author.Rules.{rules}
 use Rattle.member.proofs.permitted.modulus_thirtieths.Goals as goal
 
 -- code 1

@@ -1,6 +1,5 @@
 -- `member::permitted::permitted_load` meets its contract: each kind's own load; a cross beam's is the same for every track.
 -- Assumes nothing.
-use borrow.Author.Rules.{rules}
 use Rattle.member.proofs.permitted.permitted_load.Goals as goal
 
 pub returns-then-kind-eq2 : goal.returns-then-kind-eq2

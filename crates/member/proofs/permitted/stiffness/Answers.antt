@@ -7,7 +7,6 @@ use Rattle.spread.proofs.StiffnessNumber.{stiffness_number_same}
 use Rattle.member.specs.Fields.{SPAN, field}
 use Rattle.member.specs.PermittedLoad.{board_inertia, stiffness_of}
 use Rattle.member.proofs.Quantities.{close, inertia_sound, board_sound}
-use borrow.Author.Rules.{rules}
 use Rattle.member.proofs.permitted.stiffness.Goals as goal
 
 pub deck_inertia-requires : goal.deck_inertia-requires

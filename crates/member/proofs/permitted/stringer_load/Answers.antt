@@ -7,7 +7,6 @@ use Rattle.member.specs.Format.{used, unused_by_kind, unused_by_code, suits, ben
 use Rattle.member.proofs.EachKind.{stringer_valid, stringer_same}
 use Rattle.member.proofs.Quantities.{sizes, species, spacing, span_positive, load_factor_positive, distribution_positive, valid_stringer}
 use Rattle.member.proofs.Falling.{stringer_load}
-use borrow.Author.Rules.{rules}
 use Rattle.member.proofs.permitted.stringer_load.Goals as goal
 
 pub modulus_thirtieths-requires : goal.modulus_thirtieths-requires

@@ -1,13 +1,9 @@
 -- `rating::judging::judge` meets its contract. The loop's invariant: the judgement and the list are those of the members passed.
 -- Assumes nothing.
-use Prim.Native.Nat.{◌≤◌, ◌<◌, ◌-◌}
-use mathlib.Core.Path.{◌≡◌, refl}
-use native.Mathlib.Omega.{arith}
-use lib.ListN.{length, take, length-set}
-use borrow.Author.Rules.{rules}
-use Rattle.member.specs.Fields.{MOST_MEMBERS}
-use Rattle.rating.specs.Judgement.{every_passes, least, first_that, loads, written, judgement_of}
-use Rattle.rating.proofs.Turns.{turn_judged, turn_written, list_length}
+use Prim.Native.Nat.{◌≤◌, ◌-◌}
+use mathlib.Core.Path.{◌≡◌}
+use lib.ListN.{take}
+use Rattle.rating.specs.Judgement.{written, judgement_of}
 use Rattle.rating.proofs.judging.judge.Given as goal
 
 abbrev pub invariant-loop-i : goal.invariant-loop-i

@@ -3,7 +3,6 @@
 use mathlib.Core.Path.{◌∙◌}
 use mir.Syntax.{w64}
 use mir.Facts.{to_z-of_z}
-use borrow.Author.Rules.{rules}
 use Rattle.rating.proofs.Turns.{rating_is}
 use Rattle.rating.proofs.judging.rate.Goals as goal
 

@@ -2,8 +2,7 @@
 -- is the margin, since it fits them.
 -- Assumes nothing.
 use Rattle.rating.specs.Turn.{with_member}
-use Rattle.std.proofs.Common.{rules, arith}
-use Rattle.std.proofs.lemmas.Grind.{common_steps}
+use Rattle.std.proofs.Common.{rules}
 use Rattle.rating.proofs.judging.with_member.Goals as goal
 
 pub returns-then-first-less : goal.returns-then-first-less

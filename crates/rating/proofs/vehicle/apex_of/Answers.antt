@@ -7,7 +7,6 @@ use lib.Dec.{eqb}
 use Rattle.member.specs.Fields.{KIND, SPAN, DISTANCE, field}
 use Rattle.rating.specs.VehicleLoad.{influence_line}
 use Rattle.rating.proofs.Lines.{apex_is_middle, apex_is_distance, distance_high, line_sized}
-use borrow.Author.Rules.{rules}
 use Rattle.rating.proofs.vehicle.apex_of.Goals as goal
 
 pub returns-then-stringer : goal.returns-then-stringer

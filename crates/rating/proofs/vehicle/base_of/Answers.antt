@@ -6,7 +6,6 @@ use mathlib.Core.Path.{◌≡◌, ap, sym, subst⁻¹, ◌∙◌}
 use Rattle.member.specs.Fields.{KIND, SPAN, DISTANCE, field}
 use Rattle.member.proofs.Quantities.{panel}
 use Rattle.rating.proofs.Lines.{base_is_span, base_is_panels, span_high}
-use borrow.Author.Rules.{rules}
 use Rattle.rating.proofs.vehicle.base_of.Goals as goal
 
 -- in the branch the kind is 2

@@ -2,7 +2,6 @@
 -- Assumes nothing.
 use Rattle.rating.specs.VehicleLoad.{vehicle_load_on}
 use Rattle.rating.proofs.Lines.{load_bounded}
-use borrow.Author.Rules.{rules}
 use Rattle.rating.proofs.vehicle.vehicle_load_on.Goals as goal
 
 pub vehicle_load-requires : goal.vehicle_load-requires

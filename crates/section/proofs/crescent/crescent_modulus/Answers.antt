@@ -9,7 +9,6 @@ use Rattle.section.specs.Log.{log_modulus, log_table}
 use Rattle.section.proofs.Crescents.{sound_crescent, past_the_page, crescent_entry}
 use Rattle.section.proofs.Sections.{log_modulus_mono}
 use Rattle.section.proofs.Table.{at_most_lem}
-use borrow.Author.Rules.{rules}
 use Rattle.section.proofs.crescent.crescent_modulus.Goals as goal
 
 sound : (c : goal.After-log_modulus) → c.log_modulus.result ≤ 4580

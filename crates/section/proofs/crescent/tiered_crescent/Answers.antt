@@ -5,7 +5,6 @@ use native.Mathlib.Omega.{arith}
 use Rattle.section.specs.Crescent.{tiered_crescent}
 use Rattle.section.proofs.Crescents.{sound_crescent}
 use Rattle.section.proofs.Products.{product_fits, product_cap}
-use borrow.Author.Rules.{rules}
 use Rattle.section.proofs.crescent.tiered_crescent.Goals as goal
 
 pub overflow_mul-result : goal.overflow_mul-result

@@ -2,7 +2,6 @@
 -- Assumes nothing.
 use borrow.Author.Tests.{eq-eqb, ne_eqb}
 use Rattle.section.specs.Dowel.{term_of, dowel_capacity}
-use borrow.Author.Rules.{rules}
 use Rattle.section.proofs.dowel.dowel_capacity.Goals as goal
 
 -- TODO clauses is cap

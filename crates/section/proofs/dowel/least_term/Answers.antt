@@ -4,7 +4,6 @@ use Prim.Native.Nat.{◌+◌, ◌*◌, ◌≤◌, min}
 use mathlib.Core.Path.{◌≡◌}
 use native.Mathlib.Omega.{arith}
 use Rattle.section.proofs.Terms.{least_term_hundredths}
-use borrow.Author.Rules.{rules}
 use Rattle.section.proofs.dowel.least_term.Goals as goal
 
 pub returns : goal.returns

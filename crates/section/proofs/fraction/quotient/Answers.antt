@@ -5,7 +5,6 @@ use Prim.Native.Nat.{◌*◌, ◌/◌, ◌%◌}
 use native.Mathlib.Omega.{arith}
 use Rattle.section.specs.Fraction.{over, floor}
 use Rattle.section.proofs.Quotient.{by_parts, first_part, second_part, both_parts}
-use borrow.Author.Rules.{rules}
 use Rattle.section.proofs.fraction.quotient.Goals as goal
 
 whole_part : (c : goal.After-round_down) → c.round_down.result ≡ c.args.n / c.args.d

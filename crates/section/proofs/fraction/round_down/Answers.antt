@@ -3,7 +3,6 @@
 use mathlib.Core.Path.{refl}
 use Rattle.section.specs.Fraction.{over, floor}
 use Rattle.section.proofs.Rounding.{rounded_down}
-use borrow.Author.Rules.{rules}
 use Rattle.section.proofs.fraction.round_down.Goals as goal
 
 pub returns : goal.returns

@@ -3,7 +3,6 @@
 use mathlib.Core.Path.{refl}
 use Rattle.section.specs.Fraction.{over, ceiling}
 use Rattle.section.proofs.Rounding.{rounded_up}
-use borrow.Author.Rules.{rules}
 use Rattle.section.proofs.fraction.round_up.Goals as goal
 
 pub returns : goal.returns

@@ -3,7 +3,6 @@
 use native.Mathlib.Omega.{arith}
 use borrow.Author.Tests.{lt-leb, le-leb}
 use Rattle.section.specs.Log.{log_modulus, log_table}
-use borrow.Author.Rules.{rules}
 use Rattle.section.proofs.log.log_modulus.Goals as goal
 
 pub returns-then-net-lt13 : goal.returns-then-net-lt13

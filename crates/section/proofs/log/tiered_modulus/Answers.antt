@@ -5,7 +5,6 @@ use mathlib.Core.Path.{ap}
 use native.Mathlib.Omega.{arith}
 use Rattle.section.specs.Log.{net_diameter, log_modulus, tiered_modulus}
 use Rattle.section.proofs.Sections.{net_diameter_cap, log_modulus_cap, tiers_cap}
-use borrow.Author.Rules.{rules}
 use Rattle.section.proofs.log.tiered_modulus.Goals as goal
 
 pub log_modulus-requires : goal.log_modulus-requires

@@ -2,7 +2,6 @@
 -- Assumes nothing.
 use native.Mathlib.Omega.{arith}
 use Rattle.section.specs.Sawn.{area_left}
-use borrow.Author.Rules.{rules}
 use Rattle.section.proofs.sawn.area_left.Goals as goal
 
 pub returns : goal.returns

@@ -3,7 +3,6 @@
 use native.Mathlib.Omega.{arith}
 use Rattle.section.proofs.Sections.{BeamCaps, beam_caps}
 use Rattle.section.specs.Sawn.{sawn_area}
-use borrow.Author.Rules.{rules}
 use Rattle.section.proofs.sawn.sawn_area.Goals as goal
 
 sizes : (c : goal.After-less-h) → BeamCaps c.args.s.pieces c.less-b.result c.less-h.result

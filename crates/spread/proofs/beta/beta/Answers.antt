@@ -5,7 +5,6 @@ use mathlib.Core.Path.{◌∙◌}
 use native.Mathlib.Nat.{mod-lt, mul-pos, mul-le-mul_left, div-mul-le_self}
 use native.Mathlib.Omega.{arith}
 use Rattle.spread.proofs.Carried.{beta_whole, most_cap, most_fits, rounded_cap}
-use borrow.Author.Rules.{rules}
 use Rattle.spread.proofs.beta.beta.Goals as goal
 
 -- the rest is below the spacing, and there are not more spacings than a tenth of the track

@@ -4,7 +4,6 @@ use Prim.Native.Nat.{◌-◌, ◌*◌, ◌≤◌}
 use native.Mathlib.Omega.{arith}
 use Rattle.section.proofs.Products.{product_cap}
 use Rattle.spread.specs.Scaled.{scaled_carried}
-use borrow.Author.Rules.{rules}
 use Rattle.spread.proofs.beta.carried.Goals as goal
 
 first-cap : (c : goal.After-share_at) → c.share_at.result * c.args.d ≤ 900000000000000

@@ -1,11 +1,8 @@
 -- `spread::beta::greatest_carried` meets its contract. The loop's invariant: the most so far is the greatest of the stringers passed.
 -- Assumes nothing.
 use Prim.Native.Nat.{◌+◌, ◌-◌, ◌≤◌}
-use mathlib.Core.Path.{◌≡◌, refl}
-use native.Mathlib.Omega.{arith}
-use borrow.Author.Rules.{rules}
+use mathlib.Core.Path.{◌≡◌}
 use Rattle.section.specs.Greatest.{top}
-use Rattle.section.proofs.Greatest.{top_next}
 use Rattle.spread.specs.Scaled.{scaled_carried}
 use Rattle.spread.proofs.beta.greatest_carried.Given as goal
 

@@ -4,7 +4,6 @@ use native.Mathlib.Omega.{arith}
 use Rattle.section.specs.Fraction.{over, whole, cube, ◌·◌, ◌÷◌}
 use Rattle.spread.specs.Inertia.{deck_inertia}
 use Rattle.spread.proofs.Moments.{DeckCaps, deck_caps}
-use borrow.Author.Rules.{rules}
 use Rattle.spread.proofs.inertia.deck_inertia.Goals as goal
 
 caps : (c : goal.After-less-net) → let s = c.args.s in DeckCaps c.less-net.result s.width.0 s.boards

@@ -6,7 +6,6 @@ use Rattle.section.specs.Fraction.{over, whole, ◌·◌, ◌÷◌}
 use Rattle.section.proofs.Products.{product_cap}
 use Rattle.section.proofs.Sections.{log_modulus_cap}
 use Rattle.spread.specs.Inertia.{inertia, log_inertia}
-use borrow.Author.Rules.{rules}
 use Rattle.spread.proofs.inertia.log_inertia.Goals as goal
 
 cap : (c : goal.After-struct_known-1) → c.log_modulus.result * c.args.net.0 ≤ 227136

@@ -5,7 +5,6 @@ use native.Mathlib.Omega.{arith}
 use Rattle.section.proofs.Products.{product_cap}
 use Rattle.spread.specs.Inertia.{sawn_inertia}
 use Rattle.spread.proofs.Moments.{inertia_in_twelfths}
-use borrow.Author.Rules.{rules}
 use Rattle.spread.proofs.inertia.sawn_inertia.Goals as goal
 
 cap : (c : goal.After-less) → c.sawn_modulus_sixths.result * c.less.result ≤ 518400000

@@ -6,7 +6,6 @@ use Rattle.section.proofs.Products.{product_cap}
 use Rattle.section.proofs.Sections.{net_diameter_cap}
 use Rattle.spread.specs.Inertia.{tiered_inertia}
 use Rattle.spread.proofs.Moments.{tiers_added}
-use borrow.Author.Rules.{rules}
 use Rattle.spread.proofs.inertia.tiered_inertia.Goals as goal
 
 pub log_inertia-requires : goal.log_inertia-requires

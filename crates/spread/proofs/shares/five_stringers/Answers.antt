@@ -1,7 +1,6 @@
 -- `spread::shares::five_stringers` meets its contract: the document's polynomials times 10,000².
 -- Assumes nothing.
 use native.Mathlib.Omega.{arith}
-use borrow.Author.Rules.{rules}
 use Rattle.spread.proofs.Scaled.{written}
 use Rattle.spread.proofs.Spreads.{five_powers, five_scaled, five_bounded}
 use Rattle.spread.proofs.shares.five_stringers.Goals as goal

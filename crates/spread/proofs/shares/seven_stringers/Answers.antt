@@ -1,7 +1,6 @@
 -- `spread::shares::seven_stringers` meets its contract: the document's polynomials times 10,000³.
 -- Assumes nothing.
 use native.Mathlib.Omega.{arith}
-use borrow.Author.Rules.{rules}
 use Rattle.spread.proofs.Scaled.{written}
 use Rattle.spread.proofs.Spreads.{seven_powers, seven_scaled, seven_bounded}
 use Rattle.spread.proofs.shares.seven_stringers.Goals as goal

@@ -2,7 +2,6 @@
 -- Assumes nothing.
 use native.Mathlib.Omega.{arith}
 use Rattle.spread.proofs.Spreads.{spread_of_three, spread_of_five, spread_of_seven}
-use borrow.Author.Rules.{rules}
 use Rattle.spread.proofs.shares.shares_of.Goals as goal
 
 -- TODO clauses is bounded

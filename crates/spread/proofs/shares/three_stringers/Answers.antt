@@ -1,7 +1,6 @@
 -- `spread::shares::three_stringers` meets its contract: the document's polynomials times 10,000.
 -- Assumes nothing.
 use native.Mathlib.Omega.{arith}
-use borrow.Author.Rules.{rules}
 use Rattle.spread.proofs.Scaled.{written}
 use Rattle.spread.proofs.Spreads.{three_scaled, three_bounded}
 use Rattle.spread.proofs.shares.three_stringers.Goals as goal

@@ -8,7 +8,6 @@ use Rattle.section.specs.Fraction.{over, floor}
 use Rattle.section.proofs.Quotient.{quotient_cap}
 use Rattle.spread.specs.Stiffness.{stiffness_number}
 use Rattle.spread.proofs.StiffnessNumber.{Caps, caps, stiffness_whole}
-use borrow.Author.Rules.{rules}
 use Rattle.spread.proofs.stiffness.stiffness_number.Goals as goal
 
 pub returns-then-deck-eq0 : goal.returns-then-deck-eq0

@@ -1,5 +1,4 @@
 -- `code_fault` meets its contract: the tests that led to each answer say which of `code_fault`'s failed first.
-use borrow.Author.Rules.{rules}
 use Rattle.surveys.specs.SurveyFile.{code_fault}
 use Rattle.files.proofs.Tests.{fails, holds}
 use Rattle.surveys.proofs.fault.code_fault.Goals as goal

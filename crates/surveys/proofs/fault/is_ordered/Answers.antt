@@ -2,7 +2,6 @@
 -- Assumes nothing.
 use mathlib.Core.Path.{refl}
 use Rattle.surveys.specs.SurveyFile.{ordered}
-use borrow.Author.Rules.{rules}
 use Rattle.surveys.proofs.fault.is_ordered.Goals as goal
 
 pub returns : goal.returns

@@ -6,7 +6,6 @@ use Rattle.member.specs.Fields.{KIND, SPAN, CODE, field}
 use Rattle.member.specs.Format.{range_of}
 use Rattle.files.specs.Reading.{is_in}
 use Rattle.surveys.specs.SurveyFile.{within}
-use borrow.Author.Rules.{rules}
 use Rattle.surveys.proofs.fault.is_within.Goals as goal
 use Rattle.surveys.proofs.fault.is_within.Goals.{After-inside}
 

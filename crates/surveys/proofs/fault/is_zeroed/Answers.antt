@@ -3,7 +3,6 @@
 use mathlib.Core.Bool.{or-true, or-false}
 use borrow.Author.Tests.{eq-eqb, ne_eqb}
 use Rattle.surveys.specs.SurveyFile.{zeroed}
-use borrow.Author.Rules.{rules}
 use Rattle.surveys.proofs.fault.is_zeroed.Goals as goal
 
 pub returns-then-m-f-eq0 : goal.returns-then-m-f-eq0

@@ -4,7 +4,6 @@ use mathlib.Core.Path.{ap}
 use mathlib.Core.Bool.{not, or-true, or-false}
 use Rattle.member.specs.Format.{range_of, ranges}
 use Rattle.surveys.specs.SurveyFile.{within}
-use borrow.Author.Rules.{rules}
 use Rattle.surveys.proofs.fault.species_within.Goals as goal
 
 pub returns-then-inside : goal.returns-then-inside

@@ -1,20 +1,16 @@
 -- `first_fault` meets its contract. The records' invariant: none of the first i records has a fault. The fields' invariant: of
 -- the first f fields the unused ones are 0, and `good` says whether the used ones are in range and A is at most B.
-use Prim.Native.Nat.{ℕ, ◌-◌, ◌≤◌}
+use Prim.Native.Nat.{ℕ}
 use mathlib.Core.Path.{◌≡◌, refl, sym, ap, ◌∙◌}
 use mathlib.Core.List.{List}
-use mathlib.Core.Bool.{true, and-true}
+use mathlib.Core.Bool.{and-true}
 use native.Mathlib.Numerals.{add-one}
 use native.Mathlib.Omega.{arith}
 use Rattle.member.specs.Fields.{FIELDS}
-use Rattle.files.specs.Words.{each}
-use Rattle.section.specs.Choose.{all}
-use Rattle.files.specs.Reading.{first_fault}
-use Rattle.surveys.specs.SurveyFile.{record_at, member_fault, zeroed}
-use Rattle.files.specs.declared.Reading.TheVariants.{Taken}
+use Rattle.surveys.specs.SurveyFile.{record_at, member_fault}
 use Rattle.files.proofs.Tests.{fails, holds}
 use Rattle.files.proofs.Faults.{clear_more, fault_at}
-use Rattle.surveys.proofs.Members.{ranged, ranged_more, code_first, unused_next, range_last, no_fault}
+use Rattle.surveys.proofs.Members.{ranged_more, code_first, unused_next, range_last, no_fault}
 use Rattle.surveys.proofs.file.first_fault.Goals as goal
 
 abbrev fault : List ℕ → ℕ → ℕ

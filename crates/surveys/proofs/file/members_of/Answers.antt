@@ -1,10 +1,6 @@
 -- `members_of` meets its contract. The invariant: the array holds the first i records, and blank ones after them.
-use Prim.Native.Nat.{◌-◌, ◌≤◌}
 use mathlib.Core.Path.{◌≡◌}
-use mathlib.Core.List.{◌++◌}
 use native.Mathlib.Omega.{arith}
-use lib.ListN.{replicate}
-use Rattle.files.specs.Words.{each}
 use Rattle.member.specs.Blank.{blank_member}
 use Rattle.member.specs.Fields.{MOST_MEMBERS}
 use Rattle.surveys.specs.SurveyFile.{record_at}

@@ -2,13 +2,11 @@
 use Prim.Native.Nat.{◌-◌, ◌≤◌}
 use mathlib.Core.Path.{◌≡◌}
 use mathlib.Core.List.{◌++◌}
-use native.Mathlib.Omega.{arith}
 use lib.ListN.{replicate}
 use Rattle.files.specs.Words.{each}
 use Rattle.member.specs.Blank.{blank_member}
 use Rattle.member.specs.Fields.{MOST_MEMBERS}
 use Rattle.surveys.specs.SurveyFile.{record_at}
-use Rattle.files.proofs.Each.{store_each}
 use Rattle.surveys.proofs.file.members_of.Given as goal
 
 abbrev pub invariant-loop-i : goal.invariant-loop-i

@@ -2,7 +2,6 @@
 -- the one that belongs to the answer.
 use mathlib.Core.Path.{sym, ◌∙◌}
 use native.Mathlib.Omega.{arith}
-use borrow.Author.Rules.{rules}
 use Rattle.surveys.proofs.Surveys.{headed_survey, headed_first, headed_clear, read_as}
 use Rattle.surveys.proofs.file.read_survey.Goals as goal
 

@@ -1,5 +1,4 @@
 -- `records_answer` meets its contract: where no record has a fault the answer is that of their order, else the fault's.
-use borrow.Author.Rules.{rules}
 use Rattle.surveys.proofs.file.records_answer.Goals as goal
 
 pub returns-in-Taken : goal.returns-in-Taken

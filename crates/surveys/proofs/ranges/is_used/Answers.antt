@@ -1,5 +1,4 @@
 -- `is_used` meets its contract: a field is used where neither the kind nor the code leaves it unused.
-use borrow.Author.Rules.{rules}
 use Rattle.member.specs.Format.{used}
 use Rattle.surveys.proofs.ranges.is_used.Goals as goal
 

@@ -3,10 +3,8 @@
 use Prim.Native.Nat.{◌<◌}
 use mathlib.Core.Path.{◌≡◌, refl}
 use mathlib.Core.Bool.{false, and-false}
-use mathlib.Core.Logic.{⊎_elim}
 use native.Mathlib.Omega.{arith}
 use lib.Dec.{leb}
-use borrow.Author.Rules.{rules}
 use borrow.Author.Tests.{ne_eqb, lt-leb}
 use Rattle.member.specs.Format.{range_of, ranges}
 use Rattle.surveys.proofs.Tables.{section_field, other_entry, close_entry, ruled, own}

@@ -1,7 +1,6 @@
 -- `section_limits` meets its contract: the two tables pass the test that they agree with `section_range`.
 use mathlib.Core.Path.{refl}
 use native.Mathlib.Omega.{arith}
-use borrow.Author.Rules.{rules}
 use Rattle.member.specs.Fields.{LAST_CODE}
 use Rattle.member.specs.Format.{◌‥◌, In, section_range, section_ranges}
 use Rattle.surveys.proofs.Tables.{section_entry, no_section}

@@ -1,6 +1,5 @@
 -- `field_at` meets its contract: the words of a record stand one behind the other from its place on.
 use mathlib.Core.Path.{sym, ◌∙◌}
-use borrow.Author.Rules.{rules}
 use Rattle.surveys.proofs.Sequences.{record_field}
 use Rattle.surveys.proofs.sequence.field_at.Goals as goal
 

@@ -1,7 +1,6 @@
 -- `is_before` meets its contract: the first of the three fields in which the records differ decides.
 use mathlib.Core.Path.{◌∙◌}
 use mathlib.Core.List.{[], ◌∷◌}
-use borrow.Author.Rules.{rules}
 use Rattle.member.specs.Fields.{KIND, SPAN, SPACING}
 use Rattle.surveys.proofs.Sequences.{decides, alike, last_decides}
 use Rattle.surveys.proofs.sequence.is_before.Goals as goal

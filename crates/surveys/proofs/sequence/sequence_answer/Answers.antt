@@ -1,13 +1,11 @@
 -- `sequence_answer` meets its contract. The loop's invariant: none of the first i records stands before its predecessor.
-use Prim.Native.Nat.{◌-◌, ◌≤◌}
+use Prim.Native.Nat.{◌≤◌}
 use mathlib.Core.Path.{◌≡◌, refl, sym, ap, ◌∙◌}
 use mathlib.Core.Bool.{Bool, not}
 use native.Mathlib.Omega.{arith}
 use Rattle.files.specs.Header.{version_of}
-use Rattle.files.specs.Reading.{◌unless◌, first_fault}
+use Rattle.files.specs.Reading.{◌unless◌}
 use Rattle.surveys.specs.SurveyFile.{SEQUENCE_FROM, sequence_fault}
-use Rattle.files.specs.Words.{each}
-use Rattle.files.specs.declared.Reading.TheVariants.{Taken}
 use Rattle.files.proofs.Faults.{clear_more, fault_at}
 use Rattle.surveys.proofs.Sequences.{fault_is, free_order, ordered_version}
 use Rattle.surveys.proofs.sequence.sequence_answer.Goals as goal

@@ -1,7 +1,6 @@
 -- `axle_at` meets its contract: an axle has at most six bytes, so no product is too great.
 use Prim.Native.Nat.{◌≤◌}
 use native.Mathlib.Omega.{arith}
-use borrow.Author.Rules.{rules}
 use Rattle.section.proofs.Products.{product_cap, product_fits}
 use Rattle.vehicles.proofs.axle.axle_at.Goals as goal
 

@@ -1,5 +1,4 @@
 -- `axle_field` meets its contract: its test is the definition's.
-use borrow.Author.Rules.{rules}
 use borrow.Author.Tests.{eq-eqb, ne_eqb}
 use Rattle.vehicles.specs.VehicleFile.{axle_field}
 use Rattle.vehicles.proofs.axle.axle_field.Goals as goal

@@ -1,6 +1,5 @@
 -- `axle_limits` meets its contract: its tests are those of the range.
 use mathlib.Core.Path.{◌≡◌, refl}
-use borrow.Author.Rules.{rules}
 use borrow.Author.Tests.{eq-eqb, ne_eqb}
 use Rattle.vehicles.specs.VehicleFile.{axle_range}
 use Rattle.vehicles.proofs.Axles.{weights_from}

@@ -1,6 +1,5 @@
 -- `axle_size` meets its contract: a distance has two bytes.
 use native.Mathlib.Omega.{arith}
-use borrow.Author.Rules.{rules}
 use Rattle.vehicles.proofs.axle.axle_size.Goals as goal
 
 pub returns : goal.returns

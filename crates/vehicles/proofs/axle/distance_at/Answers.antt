@@ -1,7 +1,6 @@
 -- `distance_at` meets its contract: the distance stands behind the weight.
 use mathlib.Core.Path.{◌∙◌}
 use native.Mathlib.Omega.{arith}
-use borrow.Author.Rules.{rules}
 use Rattle.vehicles.proofs.Axles.{axle_room, distance_behind}
 use Rattle.vehicles.proofs.axle.distance_at.Goals as goal
 

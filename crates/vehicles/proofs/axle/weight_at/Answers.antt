@@ -1,7 +1,6 @@
 -- `weight_at` meets its contract: the number has as many bytes as the version says.
 use mathlib.Core.Path.{◌∙◌}
 use native.Mathlib.Omega.{arith}
-use borrow.Author.Rules.{rules}
 use Rattle.vehicles.proofs.Axles.{four_bytes, axle_room, weight_of_four, weight_of_two}
 use Rattle.vehicles.proofs.axle.weight_at.Goals as goal
 

@@ -1,5 +1,4 @@
 -- `field_within` meets its contract: the range and the number are the callees'.
-use borrow.Author.Rules.{rules}
 use Rattle.vehicles.specs.VehicleFile.{field_within}
 use Rattle.vehicles.proofs.file.field_within.Goals as goal
 

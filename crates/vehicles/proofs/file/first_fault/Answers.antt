@@ -1,16 +1,13 @@
 -- `first_fault` meets its contract. The axles' invariant: none of the first i axles has a fault. The fields' invariant: the first f
 -- fields of the axle are in their ranges.
-use Prim.Native.Nat.{◌-◌, ◌≤◌, ◌<◌}
+use Prim.Native.Nat.{◌<◌}
 use mathlib.Core.Path.{◌≡◌, refl, sym, ap, ◌∙◌}
-use mathlib.Core.Bool.{Bool, true}
+use mathlib.Core.Bool.{Bool}
 use native.Mathlib.Numerals.{add-one}
 use native.Mathlib.Omega.{arith}
-use Rattle.files.specs.Words.{each}
-use Rattle.section.specs.Choose.{all}
 use Rattle.files.specs.Header.{version_of}
-use Rattle.files.specs.Reading.{first_fault, ◌unless◌}
+use Rattle.files.specs.Reading.{◌unless◌}
 use Rattle.vehicles.specs.VehicleFile.{AXLE_FIELDS, field_within, axle_within, axle_fault}
-use Rattle.files.specs.declared.Reading.TheVariants.{Taken}
 use Rattle.files.proofs.Tests.{fails, holds, all_fails}
 use Rattle.files.proofs.Faults.{clear_more, fault_at}
 use Rattle.vehicles.proofs.Axles.{axle_within_lem}

@@ -4,7 +4,6 @@ use Prim.Native.Nat.{ℕ}
 use mathlib.Core.Path.{◌≡◌, sym, ◌∙◌}
 use mathlib.Core.List.{List}
 use native.Mathlib.Omega.{arith}
-use borrow.Author.Rules.{rules}
 use Rattle.member.specs.Format.{Range, ◌‥◌}
 use Rattle.vehicles.specs.VehicleFile.{axles_of, axle_faults, vehicle_header, vehicle_answer}
 use Rattle.vehicles.specs.Refused.{Fronted}

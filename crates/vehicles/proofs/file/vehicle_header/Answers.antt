@@ -4,8 +4,7 @@ use Prim.Native.Nat.{ℕ}
 use mathlib.Core.Path.{◌≡◌, sym}
 use mathlib.Core.Bool.{◌&&◌}
 use mathlib.Core.List.{List}
-use borrow.Author.Rules.{rules}
-use borrow.Author.Tests.{ne_eqb, not-true, not-false}
+use borrow.Author.Tests.{ne_eqb}
 use Rattle.member.specs.Fields.{MOST_AXLES}
 use Rattle.member.specs.Format.{Range, ◌‥◌, class_range, track_range}
 use Rattle.files.specs.Header.{version_of, header_fault}

@@ -1,12 +1,10 @@
 -- `vehicle_of` meets its contract. The invariant: the first i weights and distances are the file's, and 0 stands after them.
-use Prim.Native.Nat.{◌+◌, ◌-◌, ◌≤◌, ◌<◌}
+use Prim.Native.Nat.{◌+◌, ◌≤◌, ◌<◌}
 use mathlib.Core.Path.{◌≡◌, refl}
-use mathlib.Core.List.{◌++◌}
 use native.Mathlib.Omega.{arith}
-use lib.ListN.{length, replicate}
+use lib.ListN.{length}
 use Rattle.section.specs.Units.{centimetres, kgf}
 use Rattle.member.specs.Fields.{MOST_AXLES}
-use Rattle.files.specs.Words.{each}
 use Rattle.files.specs.Header.{version_of}
 use Rattle.vehicles.specs.VehicleFile.{axles_of, axle_at, weight_at, distance_at}
 use Rattle.files.proofs.Each.{store_each}

@@ -2,7 +2,6 @@
 use Prim.Native.Nat.{◌+◌, ◌*◌, ◌≤◌}
 use mathlib.Core.Path.{◌≡◌}
 use native.Mathlib.Omega.{arith}
-use borrow.Author.Rules.{rules}
 use Rattle.vehicles.specs.VehicleFile.{VEHICLE_HEADER}
 use Rattle.vehicles.specs.YardFile.{own_length}
 use Rattle.section.proofs.Products.{product_cap, product_fits}
