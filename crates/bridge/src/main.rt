@@ -5,27 +5,11 @@
 mod input;
 mod report;
 
-ghost use Rattle.std.specs.Prelude.{◌≤◌, length, IfOk};
-
 use input::{ENOUGH, load_read};
+use input_bytes::read_full;
 use report::print_report;
 use std::io;
 use std::io::{Read, Stdin};
-
-// Reads until the buffer is full or the input ends, and answers how many bytes were read.
-fn read_full(input: &mut Stdin, buffer: &mut [u8]) -> io::Result<usize>
-    ensures { IfOk result (λ n. n ≤ length buffer.new) }
-{
-    let mut n = 0;
-    while n < buffer.len() {
-        let more = input.read(&mut buffer[n..])?;
-        if more == 0 {
-            break;
-        }
-        n += more;
-    }
-    Ok(n)
-}
 
 // Reads once, and answers whether there may be more.
 fn drop_some(input: &mut Stdin) -> io::Result<bool> {

@@ -2,22 +2,23 @@
 // independent reference: (cd host && cargo run --release -p reference --example cases -- ../crates)
 #![tactic(auto)]
 
+use input_bytes::read_full;
 use script::out::Out;
 use script::{print, run};
 use std::io;
-use std::io::Read;
 
 // A script that fills this is too long: its last steps would be lost.
 const SPACE: usize = 524288;
 
 fn main(rt: HostRuntime) -> io::Result<()> {
-    let mut script = Vec::new(rt.alloc());
-    rt.stdin().take(SPACE as u64).read_to_end(&mut script)?;
+    let mut stdin = rt.stdin();
+    let mut space = [0u8; SPACE];
+    let n = read_full(&mut stdin, &mut space)?;
     let mut out = Out::new(rt);
-    if script.len() == SPACE {
+    if n == SPACE {
         print::line(&mut out, b"the script is too long");
     } else {
-        run(&mut out, &script);
+        run(&mut out, &space[..n]);
     }
     out.end()
 }

@@ -1,6 +1,5 @@
 -- `tbr_member_loads` meets its contract: the answers of the loads and of the judgement pick the case of its definitions.
 -- Assumes nothing.
-use borrow.Author.Rules.{rules}
 use Rattle.exports.proofs.Files.{refused, counted, filled}
 use Rattle.exports.proofs.tbr_member_loads.Goals as goal
 

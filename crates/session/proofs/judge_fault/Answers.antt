@@ -3,7 +3,6 @@
 use mathlib.Core.Path.{sym, ◌∙◌}
 use borrow.Author.Tests.{eq-eqb, ne_eqb, le-leb, lt-leb}
 use Rattle.session.specs.Calls.{judge_fault}
-use borrow.Author.Rules.{rules}
 use Rattle.session.proofs.judge_fault.Goals as goal
 
 pub returns-then-fault-ne0 : goal.returns-then-fault-ne0

@@ -5,7 +5,6 @@ use Rattle.surveys.specs.SurveyFile.{read_survey}
 use Rattle.files.specs.declared.Reading.TheVariants.{Taken}
 use Rattle.between.proofs.Pairs.{taken_survey_allowed}
 use Rattle.session.proofs.State.{files_refused, files_alone}
-use borrow.Author.Rules.{rules}
 use Rattle.session.proofs.judge_files.Goals as goal
 use Rattle.session.proofs.judge_files.Goals.{In_default}
 

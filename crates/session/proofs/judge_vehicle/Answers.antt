@@ -6,7 +6,6 @@ use Rattle.files.specs.declared.Reading.TheVariants.{Taken}
 use Rattle.vehicles.specs.VehicleFile.{VEHICLE_VERSIONS, read_vehicle}
 use Rattle.vehicles.proofs.Vehicles.{taken_vehicle_allowed}
 use Rattle.session.proofs.State.{alone_refused, alone_taken}
-use borrow.Author.Rules.{rules}
 use Rattle.session.proofs.judge_vehicle.Goals as goal
 use Rattle.session.proofs.judge_vehicle.Goals.{In_default}
 

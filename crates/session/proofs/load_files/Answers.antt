@@ -5,7 +5,6 @@ use Rattle.surveys.specs.SurveyFile.{read_survey}
 use Rattle.files.specs.declared.Reading.TheVariants.{Taken}
 use Rattle.session.specs.Calls.{new_session}
 use Rattle.session.proofs.State.{valid_new, valid_survey, survey_stored, survey_kept, first_refused, second_loaded}
-use borrow.Author.Rules.{rules}
 use Rattle.session.proofs.load_files.Goals as goal
 use Rattle.session.proofs.load_files.Goals.{In-Taken}
 

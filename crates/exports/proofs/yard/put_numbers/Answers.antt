@@ -1,9 +1,8 @@
 -- `put_numbers` meets its contract. The loop's invariant: the list has the numbers of the answers passed, and then what was there.
-use Prim.Native.Nat.{◌≤◌, ◌-◌}
 use mathlib.Core.Path.{◌≡◌, refl}
 use native.Mathlib.Omega.{arith}
 use lib.ListN.{length, length-set}
-use Rattle.exports.proofs.Rows.{rows, rows_length, turn}
+use Rattle.exports.proofs.Rows.{rows_length, turn}
 use Rattle.exports.proofs.yard.put_numbers.Goals as goal
 use Rattle.exports.proofs.yard.put_numbers.Goals.{At-loop-i}
 

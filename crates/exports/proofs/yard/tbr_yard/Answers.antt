@@ -5,7 +5,6 @@ use native.Mathlib.Omega.{arith}
 use Rattle.session.specs.Answers.{loaded}
 use Rattle.session.specs.Calls.{new_session, load_survey}
 use Rattle.exports.proofs.YardFiles.{refused, filled}
-use borrow.Author.Rules.{rules}
 use Rattle.exports.proofs.yard.tbr_yard.Goals as goal
 use Rattle.exports.proofs.yard.tbr_yard.Goals.{After-load_survey-first}
 

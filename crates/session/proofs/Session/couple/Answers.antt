@@ -1,7 +1,6 @@
 -- `Session::couple` meets its contract: what was coupled is stored by its answer.
 -- Assumes nothing.
 use mathlib.Core.Path.{◌∙◌}
-use borrow.Author.Rules.{rules}
 use Rattle.couple.proofs.Named.{taken_allowed}
 use Rattle.session.specs.Coupling.{couple}
 use Rattle.session.proofs.Session.couple.Goals as goal

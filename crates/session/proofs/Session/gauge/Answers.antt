@@ -5,7 +5,6 @@ use native.Mathlib.Omega.{arith}
 use borrow.Author.Tests.{eq-eqb, ne_eqb}
 use Rattle.session.specs.Gauging.{gauge}
 use Rattle.session.proofs.State.{AtPlace, at_place}
-use borrow.Author.Rules.{rules}
 use Rattle.session.proofs.Session.gauge.Goals as goal
 use Rattle.session.proofs.Session.gauge.Goals.{Else-number-ne0}
 

@@ -6,7 +6,6 @@ use lib.ListN.{length}
 use borrow.Author.Tests.{eq-eqb, ne_eqb}
 use Rattle.session.specs.Calls.{judge, judge_list}
 use Rattle.session.proofs.State.{Ready, judge_clear, few_members}
-use borrow.Author.Rules.{rules}
 use Rattle.session.proofs.Session.judge.Goals as goal
 use Rattle.session.proofs.Session.judge.Goals.{Else-number-ne0}
 

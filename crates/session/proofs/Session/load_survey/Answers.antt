@@ -1,7 +1,6 @@
 -- `Session::load_survey` meets its contract: what was read decides, and only a file that was taken is stored.
 -- Assumes nothing.
 use Rattle.session.proofs.State.{survey_stored, survey_kept, valid_survey}
-use borrow.Author.Rules.{rules}
 use Rattle.session.proofs.Session.load_survey.Goals as goal
 
 pub returns-in-Taken : goal.returns-in-Taken

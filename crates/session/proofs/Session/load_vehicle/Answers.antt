@@ -1,7 +1,6 @@
 -- `Session::load_vehicle` meets its contract: what was read is stored by its answer.
 -- Assumes nothing.
 use mathlib.Core.Path.{◌∙◌}
-use borrow.Author.Rules.{rules}
 use Rattle.vehicles.specs.VehicleFile.{VEHICLE_VERSIONS}
 use Rattle.vehicles.proofs.Vehicles.{taken_vehicle_allowed}
 use Rattle.session.specs.Calls.{load_vehicle}

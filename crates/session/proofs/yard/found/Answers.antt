@@ -6,12 +6,10 @@ use mathlib.Core.List.{List}
 use lib.ListN.{length}
 use Rattle.files.specs.Reading.{first_of}
 use Rattle.vehicles.specs.YardFile.{vehicles_of, left_over}
-use Rattle.files.specs.declared.Reading.TheVariants.{Taken}
 use Rattle.session.specs.Answers.{load_answer}
 use Rattle.session.specs.Yard.{end_tests}
 use Rattle.session.specs.YardRun.{Ran}
 use Rattle.session.proofs.YardTests.{vehicle_refused, end_refused, end_is, answered_refused, answered_taken}
-use borrow.Author.Rules.{rules}
 use Rattle.session.proofs.yard.found.Goals as goal
 use Rattle.session.proofs.yard.found.Goals.{After-end_fault-end}
 use Rattle.session.specs.declared.Session.{Session}

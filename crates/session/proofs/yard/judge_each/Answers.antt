@@ -1,6 +1,6 @@
 -- `session::yard::judge_each` meets its contract: each turn adds a vehicle to what is kept.
 -- Assumes nothing.
-use Prim.Native.Nat.{ℕ, ◌≤◌, ◌-◌}
+use Prim.Native.Nat.{ℕ}
 use mathlib.Core.Path.{◌≡◌, subst}
 use native.Mathlib.Omega.{arith}
 use Rattle.session.specs.YardRun.{Ran}

@@ -1,10 +1,7 @@
 -- `session::yard::judge_each` meets its contract: each turn adds a vehicle to what is kept.
 -- Assumes nothing.
-use Prim.Native.Nat.{ℕ, ◌≤◌, ◌-◌}
-use mathlib.Core.Path.{◌≡◌, subst}
-use native.Mathlib.Omega.{arith}
+use Prim.Native.Nat.{◌≤◌, ◌-◌}
 use Rattle.session.specs.YardRun.{Ran}
-use Rattle.session.proofs.YardRuns.{ran_none}
 use Rattle.session.proofs.yard.judge_each.Given as goal
 
 abbrev pub invariant-loop-i : goal.invariant-loop-i

@@ -6,7 +6,6 @@ use Rattle.files.specs.declared.Reading.TheVariants.{Taken}
 use Rattle.session.specs.YardRun.{Ran, Going}
 use Rattle.session.proofs.State.{alone_by_survey}
 use Rattle.session.proofs.YardRuns.{ran_refused, file_within, ran_vehicle}
-use borrow.Author.Rules.{rules}
 use Rattle.session.proofs.yard.with_vehicle.Goals as goal
 use Rattle.session.proofs.yard.with_vehicle.Goals.{In-Taken}
 
