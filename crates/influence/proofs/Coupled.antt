@@ -69,10 +69,10 @@ module _ {ws₁ : List Kgf} {ds₁ : List Cm} {n : ℕ} {ws₂ : List Kgf} {ds�
       (λ g. g ≤ apex_top U P (weight ws₁) (behind ds₁) n + apex_top U P (weight ws₂) (behind ds₂) m) _ (n + m) (omega arith)
       (λ j l. rw (sum_coupled U P (P + behind ds j)) (add-le-add (apex_top_lem U P _ _ n p _) (apex_top_lem U P _ _ m p _)))
 
-  pub at_most_sum :
+  pub coupled_at_most :
       {U P : ℕ} → Triangle U P → vehicle_load U P ws ds (n + m) ≤ vehicle_load U P ws₁ ds₁ n + vehicle_load U P ws₂ ds₂ m
   unfolding scaled_greatest
-  at_most_sum {U} {P} t =
+  coupled_at_most {U} {P} t =
       rw (load_computed ws ds (n + m) t, load_computed ws₁ ds₁ n t, load_computed ws₂ ds₂ m t)
       (ceiling_least _ (load_sound _ t) (load_sound _ t)
       (per_metre_mono U (over_mono _ (omega (arith, top_coupled U P (omega arith), top_coupled U (U - P) (omega arith)))))

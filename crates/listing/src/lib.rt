@@ -7,7 +7,7 @@ ghost use Rattle.vehicles.specs.YardFile.{MOST_VEHICLES};
 use rating::judging::Judgement;
 use vehicles::yard::MOST_VEHICLES;
 
-// The answer at an index, which is below the length: the default of `get_or`, r itself, is never taken.
+// The answer at an index, which is below the length: the default of `get_or`, the result itself, is never taken.
 fn answer_at(answers: [Judgement; MOST_VEHICLES], i: usize) -> Judgement
     requires { i < MOST_VEHICLES }
     ensures { result ≡ get_or answers i result }

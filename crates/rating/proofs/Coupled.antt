@@ -6,7 +6,7 @@ use mathlib.Core.Path.{◌≡◌}
 use mathlib.Core.Bool.{true}
 use mathlib.Core.List.{List}
 use native.Mathlib.Omega.{arith}
-use Rattle.influence.proofs.Coupled.{Coupled, at_most_sum, at_least_first, at_least_second}
+use Rattle.influence.proofs.Coupled.{Coupled, coupled_at_most, at_least_first, at_least_second}
 use Rattle.member.specs.Format.{AllowedMember}
 use Rattle.member.specs.declared.record.Member.{Member}
 use Rattle.member.specs.declared.record.Vehicle.{Vehicle}
@@ -20,7 +20,7 @@ use Rattle.rating.proofs.Lines.{line_sized}
 module _ (first second v : Vehicle) (axles : v.axles ≡ first.axles + second.axles) (c : Coupled first.weights first.distances first.axles second.weights second.distances second.axles v.weights v.distances) {m : Member} (a : AllowedMember m) where
   pub load_at_most_sum : vehicle_load_on m v ≤ vehicle_load_on m first + vehicle_load_on m second
   unfolding vehicle_load_on
-  load_at_most_sum = rw axles (at_most_sum c (line_sized a).triangle)
+  load_at_most_sum = rw axles (coupled_at_most c (line_sized a).triangle)
 
   pub load_at_least_first : vehicle_load_on m first ≤ vehicle_load_on m v
   unfolding vehicle_load_on

@@ -129,7 +129,7 @@ pub fn between(out: &mut Out, answer: BetweenJudged) {
 
 // The bits of a float; a NaN has none of its own.
 fn bits(out: &mut Out, x: f32) {
-    if x.is_nan() {
+    if x != x {
         text(out, b" NaN");
     } else {
         number(out, widest(f32::to_bits(x)));

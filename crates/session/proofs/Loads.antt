@@ -23,7 +23,7 @@ use Rattle.couple.proofs.Named.{fault_refused, coupled_read, taken_allowed}
 use Rattle.session.specs.Calls.{Valid, load_survey, load_vehicle, stored_survey, stored_vehicle}
 use Rattle.session.specs.Coupling.{couple}
 use Rattle.session.specs.declared.Session.{Session}
-use Rattle.session.proofs.State.{valid_vehicle}
+use Rattle.session.proofs.State.{valid_with}
 
 -- two answers are never both
 abbrev pub is_refusal : Answer → Bool
@@ -72,7 +72,7 @@ module _ (s : Session) where
   stored_kept (Refused r) v n p h = refl
 
   pub stored_valid : (a : Reading) (v : Vehicle) → Valid s → (a ≡ Taken → AllowedVehicle v) → Valid (stored_vehicle s a v).session
-  stored_valid Taken v h allowed = valid_vehicle s v h (allowed refl)
+  stored_valid Taken v h allowed = valid_with s v h (allowed refl)
   stored_valid (Refused r) v h allowed = h
 
 -- a load that takes its file, by its answer

@@ -67,8 +67,11 @@ valid_new = record { survey = λ h. absurd (omega arith); vehicle = λ h. absurd
 pub valid_survey : (s : Session) (bytes : List ℕ) → Valid s → (read_survey bytes).answer ≡ Taken → Valid (record { survey = (read_survey bytes).survey; vehicle = s.vehicle })
 valid_survey s bytes h e = record { survey = λ l. taken_survey_allowed bytes e; vehicle = h.vehicle }
 
-pub valid_vehicle : (s : Session) (v : Vehicle) → Valid s → AllowedVehicle v → Valid (record { survey = s.survey; vehicle = v })
-valid_vehicle s v h a = record { survey = h.survey; vehicle = λ l. a }
+pub valid_with : (s : Session) (v : Vehicle) → Valid s → AllowedVehicle v → Valid (record { survey = s.survey; vehicle = v })
+valid_with s v h a = record { survey = h.survey; vehicle = λ l. a }
+
+pub valid_vehicle : (s : Session) (bytes : List ℕ) → Valid s → (read_vehicle bytes).answer ≡ Taken → Valid (record { survey = s.survey; vehicle = (read_vehicle bytes).vehicle })
+valid_vehicle s bytes h e = valid_with s _ h (taken_vehicle_allowed VEHICLE_VERSIONS bytes e)
 
 -- a survey has at most as many members as a file can
 pub few_members : (s : Session) → Valid s → s.survey.count ≤ MOST_MEMBERS
@@ -106,13 +109,15 @@ pub survey_kept : (s : Session) (bytes : List ℕ) (r : SurveyRead) (f : Refusal
 unfolding load_survey
 survey_kept s bytes r f e t = rw (e, rw e at t)
 
-pub vehicle_stored : (s : Session) (r : VehicleRead) → r.answer ≡ Taken →
-    loaded (record { session = record { survey = s.survey; vehicle = r.vehicle }; answer = r.answer }) ≡ stored_vehicle s r.answer r.vehicle
-vehicle_stored s r t = rw t
+pub vehicle_stored : (s : Session) (bytes : List ℕ) (r : VehicleRead) → r ≡ read_vehicle bytes → r.answer ≡ Taken →
+    loaded (record { session = record { survey = s.survey; vehicle = r.vehicle }; answer = r.answer }) ≡ load_vehicle s bytes
+unfolding load_vehicle
+vehicle_stored s bytes r e t = rw (e, rw e at t)
 
-pub vehicle_kept : (s : Session) (r : VehicleRead) (f : Refusal) → r.answer ≡ Refused f →
-    loaded (record { session = s; answer = r.answer }) ≡ stored_vehicle s r.answer r.vehicle
-vehicle_kept s r f t = rw t
+pub vehicle_kept : (s : Session) (bytes : List ℕ) (r : VehicleRead) (f : Refusal) → r ≡ read_vehicle bytes → r.answer ≡ Refused f →
+    loaded (record { session = s; answer = r.answer }) ≡ load_vehicle s bytes
+unfolding load_vehicle
+vehicle_kept s bytes r f e t = rw (e, rw e at t)
 
 -- both loads, by the answer of the first
 module _ (survey vehicle : List ℕ) where

@@ -191,10 +191,16 @@ module _ (versions : Range) (bytes : List ℕ) where
       let front = front_clear versions bytes (record { head = head; class = a.vehicle.class; track = a.vehicle.track }) in
       head_clear 0 _ (axle_faults bytes (axles_of bytes)) front ∙ none_taken 1 (axle_fault bytes) (axles_of bytes) (vehicle_clear bytes a.vehicle a.weights)
 
-  -- a taken file's vehicle is the file's, and is allowed
+  -- a taken file's vehicle is the file's, axle by axle, and is allowed
   pub taken_vehicle : (read_vehicle_of versions bytes).answer ≡ Taken → (read_vehicle_of versions bytes).vehicle ≡ vehicle_of bytes
   unfolding read_vehicle_of
   taken_vehicle e = rw e
+
+  pub taken_weight : (read_vehicle_of versions bytes).answer ≡ Taken → (i : ℕ) → i < axles_of bytes → weight (read_vehicle_of versions bytes).vehicle.weights i ≡ weight_at bytes i
+  taken_weight e i l = rw (taken_vehicle e) (weight_is bytes i l)
+
+  pub taken_distance : (read_vehicle_of versions bytes).answer ≡ Taken → (i : ℕ) → i < axles_of bytes → distance (read_vehicle_of versions bytes).vehicle.distances i ≡ distance_at bytes i
+  taken_distance e i l = rw (taken_vehicle e) (distance_is bytes i l)
 
   pub taken_vehicle_allowed : (read_vehicle_of versions bytes).answer ≡ Taken → AllowedVehicle (read_vehicle_of versions bytes).vehicle
   taken_vehicle_allowed e = rw (taken_vehicle e) (taken_allowed e).vehicle
