@@ -114,6 +114,8 @@ fn refused(answer: Reading) -> SurveyRead
 }
 
 // A survey file of any length: the survey, or the first fault.
+// Compiled into its callers: the survey is large, and goes from call to call by value.
+#[inline(always)]
 pub fn read_survey(bytes: &[u8]) -> SurveyRead
     ensures { result ≡ read_survey bytes.now }
 {
