@@ -11,7 +11,6 @@ dowels-requires c = dowel_code c.requires.0 c.requires.1
 pub dowel_capacity-requires : goal.dowel_capacity-requires
 dowel_capacity-requires c = let p = c.requires in omega (arith, dowel_sizes p.0 (dowel_code p.0 p.1), c.dowels.ensures)
 
--- TODO clauses is cap
 pub returns : goal.returns
 unfolding capacity
 returns c = let s = c.dowels.ensures in rw (s.0, s.1, s.2, s.3, s.4) at c.dowel_capacity.ensures

@@ -13,7 +13,6 @@ sawn-requires c = chord_code c.requires.0 c.requires.1
 pub sawn_area-requires : goal.sawn_area-requires
 sawn_area-requires c = let p = c.requires in omega (arith, sawn_sizes p.0 (chord_code p.0 p.1), c.sawn.ensures)
 
--- TODO clauses is cap
 pub returns : goal.returns
 unfolding net_area
 returns c =

@@ -4,14 +4,12 @@ use borrow.Author.Tests.{eq-eqb, ne_eqb}
 use Rattle.section.specs.Dowel.{term_of, dowel_capacity}
 use Rattle.section.proofs.dowel.dowel_capacity.Goals as goal
 
--- TODO clauses is cap
 pub returns-then-material-eq1 : goal.returns-then-material-eq1
 unfolding dowel_capacity term_of
 returns-then-material-eq1 c =
     rw (eq-eqb _ _ c.if-material-eq1.true, ← c.less-a.ensures, ← c.less-c.ensures)
     c.least_term.ensures
 
--- TODO clauses is cap
 pub returns-then-material-eq2 : goal.returns-then-material-eq2
 unfolding dowel_capacity term_of
 returns-then-material-eq2 c =
@@ -23,7 +21,6 @@ returns-then-material-eq2 c =
     )
     c.least_term-then-material-eq2.ensures
 
--- TODO clauses is cap
 pub returns : goal.returns
 unfolding dowel_capacity term_of
 returns c =
