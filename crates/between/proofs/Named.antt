@@ -1,5 +1,6 @@
 -- A refusal names its fault, and a fault its refusal: the tests in their order come to the plain words.
 -- Assumes nothing.
+use Rattle.std.specs.Prelude.{Ok, Err}
 use Prim.Native.Nat.{ℕ, ◌+◌, ◌*◌}
 use mathlib.Core.Path.{◌≡◌, sym, ap, ◌∙◌}
 use mathlib.Core.Bool.{false≢true}
@@ -12,7 +13,6 @@ use borrow.Author.Tests.{ne_eqb, lt-leb}
 use Rattle.member.specs.declared.record.Vehicle.{Vehicle}
 use Rattle.surveys.specs.SurveyFile.{count_of, record_at}
 use Rattle.files.specs.Reading.{first_refusal}
-use Rattle.files.specs.declared.Reading.TheVariants.{Taken, Refused}
 use Rattle.files.specs.declared.Refusal.{Refusal}
 use Rattle.files.proofs.Faults.{refusal, reading_case, failing_named}
 use Rattle.surveys.proofs.Surveys.{taken_allowed, allowed_taken, named_refused, either_file}
@@ -59,7 +59,7 @@ module _ (v : Vehicle) (first second : List ℕ) (room : ℕ) where
   Outcome = Passed v first second room ⊎ ((n p : ℕ) × BetweenFault v first second room n p)
 
   -- the first record that is not in order
-  unordered : BothAllowed v first second → count_of first ≡ count_of second → (r : Refusal) → order_of first second ≡ Refused r → Outcome
+  unordered : BothAllowed v first second → count_of first ≡ count_of second → (r : Refusal) → order_of first second ≡ Err r → Outcome
   unordered b same r e =
       let (i, inside, before, fails) = failing_named 15 (omega arith) (ordered_at first second) (count_of first) r (sym (count_alike _ _ _ _ same) ∙ e) in
       inr (15, i + 1, not_ordered b same i inside (λ k l. test_ordered _ _ (before k l)) (λ o. false≢true (sym fails ∙ ordered_test _ _ o)))
@@ -75,7 +75,7 @@ module _ (v : Vehicle) (first second : List ℕ) (room : ℕ) where
             (either_file first)
       ]
     where
-      roomy : (b : BothAllowed v first second) → order_of first second ≡ Taken → Outcome
+      roomy : (b : BothAllowed v first second) → order_of first second ≡ (Ok tt) → Outcome
       roomy b e =
           elim (dec_le (2 * count_of first) room) [
             | yes l ↦ inl (good_passed (record { allowed = b; order = taken_in_order first second e; room_enough = l }))

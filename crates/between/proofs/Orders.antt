@@ -1,5 +1,6 @@
 -- Records and surveys in order: the tests come to the plain words.
 -- Assumes nothing.
+use Rattle.std.specs.Prelude.{Ok, Err}
 use Prim.Native.Nat.{ℕ, ◌+◌, ◌≤◌, ◌<◌}
 use mathlib.Core.Path.{◌≡◌, refl, sym, ◌∙◌}
 use mathlib.Core.Bool.{Bool, true, false, not, ◌&&◌, ◌||◌, and-true, and-false, or-true, or-false, false≢true}
@@ -18,7 +19,6 @@ use Rattle.member.proofs.Wears.{no_rot, no_loss}
 use Rattle.files.specs.Reading.{first_fault}
 use Rattle.surveys.specs.SurveyFile.{count_of, record_at}
 use Rattle.files.specs.Words.{each}
-use Rattle.files.specs.declared.Reading.TheVariants.{Taken}
 use Rattle.files.proofs.Faults.{refusal, all_hold, hold_all, first_failing, counts_differ, counts_alike, counts_same}
 use Rattle.files.proofs.Tests.{both, all_of, refutes}
 use Rattle.between.specs.Order.{must_stay, may_grow, field_ordered, ordered, order_fault, Ordered, order_answer, order_of, OrderedBefore, InOrder}
@@ -65,7 +65,7 @@ module _ (n n' : ℕ) (at at' : ℕ → Member) where
   count_alike = counts_alike 15 (omega arith) n n' (each (λ i. order_fault (at i) (at' i)) n)
 
 -- surveys in order have the same count
-pub order_count : (first second : List ℕ) → order_of first second ≡ Taken → count_of first ≡ count_of second
+pub order_count : (first second : List ℕ) → order_of first second ≡ (Ok tt) → count_of first ≡ count_of second
 unfolding order_answer
 order_count first second = counts_same 15 (omega arith) (count_of first) (count_of second) (each (λ i. order_fault (record_at first i) (record_at second i)) (count_of first))
 
@@ -144,12 +144,12 @@ module _ (first second : List ℕ) where
   abbrev pub ordered_at : (i : ℕ) → Bool
   ordered_at i = ordered (record_at first i) (record_at second i)
 
-  pub taken_in_order : order_of first second ≡ Taken → InOrder first second
+  pub taken_in_order : order_of first second ≡ (Ok tt) → InOrder first second
   taken_in_order e =
       let same = order_count first second e in
       record { count = same; records = λ i l. test_ordered _ _ (all_hold 15 (omega arith) ordered_at (count_of first) (sym (count_alike _ _ _ _ same) ∙ e) i l) }
 
-  pub in_order_taken : InOrder first second → order_of first second ≡ Taken
+  pub in_order_taken : InOrder first second → order_of first second ≡ (Ok tt)
   in_order_taken o = count_alike _ _ _ _ o.count ∙ hold_all 15 (omega arith) ordered_at (count_of first) (λ i l. ordered_test _ _ (o.records i l))
 
   -- the first record that is not in order

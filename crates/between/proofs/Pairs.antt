@@ -1,6 +1,7 @@
 -- Two survey files read: what was read is in order exactly when the files are, and the tests that the code makes come to those of the
 -- definition.
 -- Assumes nothing.
+use Rattle.std.specs.Prelude.{Ok, Err}
 use Prim.Native.Nat.{ℕ, ◌*◌, ◌≤◌, ◌<◌}
 use mathlib.Core.Path.{◌≡◌, refl, sym, ap, ◌∙◌}
 use mathlib.Core.Bool.{not}
@@ -15,10 +16,8 @@ use Rattle.member.specs.Fields.{MOST_MEMBERS}
 use Rattle.member.specs.declared.record.Vehicle.{Vehicle}
 use Rattle.rating.specs.Judgement.{permitted_for, judgement_of}
 use Rattle.rating.specs.Surveyed.{AllowedSurvey, member_at, members_of}
-use Rattle.files.specs.Reading.{or_else, test, first_refusal}
+use Rattle.files.specs.Reading.{Reading, or_else, test, first_refusal}
 use Rattle.surveys.specs.SurveyFile.{count_of, record_at, records_of, survey_of, read_survey}
-use Rattle.files.specs.declared.Reading.{Reading}
-use Rattle.files.specs.declared.Reading.TheVariants.{Taken, Refused}
 use Rattle.files.specs.declared.Refusal.{Refusal}
 use Rattle.files.proofs.Each.{each_same, length_each}
 use Rattle.files.proofs.Faults.{reading_case, both_taken, or_none, test_holds}
@@ -28,22 +27,22 @@ use Rattle.between.specs.Order.{order_answer, order_of}
 use Rattle.between.specs.Between.{pair_answer, between_tests, verdict_between, bounds_written, answered_between, between_list}
 use Rattle.between.specs.declared.Between.{Between}
 use Rattle.between.specs.declared.BetweenJudged.TheVariants.{Verdict as Given}
-use Rattle.between.specs.declared.BetweenJudged.TheVariants.{Refused as NotJudged}
+use Rattle.between.specs.declared.BetweenJudged.TheVariants.{Err as NotJudged}
 use Rattle.between.proofs.Orders.{count_differs, count_alike, order_count}
 use Rattle.between.proofs.Lists.{bounds_same}
 
 -- a survey that was taken is allowed, and holds the file's records
 module _ (bytes : List ℕ) where
-  pub taken_survey_allowed : (read_survey bytes).answer ≡ Taken → AllowedSurvey (read_survey bytes).survey
+  pub taken_survey_allowed : (read_survey bytes).answer ≡ (Ok tt) → AllowedSurvey (read_survey bytes).survey
   taken_survey_allowed e = record { count = taken_count bytes e; members = λ i h. taken_members bytes e i _ h }
 
-  pub read_count : (read_survey bytes).answer ≡ Taken → (read_survey bytes).survey.count ≡ count_of bytes
+  pub read_count : (read_survey bytes).answer ≡ (Ok tt) → (read_survey bytes).survey.count ≡ count_of bytes
   read_count e = rw (taken_survey bytes e)
 
   pub survey_members : members_of (survey_of bytes) ≡ records_of bytes
   survey_members = take_at (records_of bytes) _ (count_of bytes) (length_each (record_at bytes) (count_of bytes))
 
-  pub read_members : (read_survey bytes).answer ≡ Taken → members_of (read_survey bytes).survey ≡ records_of bytes
+  pub read_members : (read_survey bytes).answer ≡ (Ok tt) → members_of (read_survey bytes).survey ≡ records_of bytes
   read_members e = rw (taken_survey bytes e) survey_members
 
   -- a refused one has no members
@@ -53,7 +52,7 @@ module _ (bytes : List ℕ) where
       (λ r e. rw (refused_blank bytes r e) (omega arith))
 
 module _ (first second : List ℕ) where
-  module _ (e : (read_survey first).answer ≡ Taken) (f : (read_survey second).answer ≡ Taken) where
+  module _ (e : (read_survey first).answer ≡ (Ok tt)) (f : (read_survey second).answer ≡ (Ok tt)) where
     -- what was read is in order exactly when the files are
     pub order_read : order_answer (read_survey first).survey.count (read_survey second).survey.count (member_at (read_survey first).survey.members) (member_at (read_survey second).survey.members) ≡ order_of first second
     order_read =
@@ -71,9 +70,9 @@ module _ (first second : List ℕ) where
   pub pair_answer_lem : (a b order : Reading) → a ≡ (read_survey first).answer → b ≡ (read_survey second).answer →
       order ≡ order_answer (read_survey first).survey.count (read_survey second).survey.count (member_at (read_survey first).survey.members) (member_at (read_survey second).survey.members) →
       or_else a (or_else b order) ≡ pair_answer first second
-  pair_answer_lem Taken Taken order e f o = rw (← e, ← f, or_none) (o ∙ order_read (sym e) (sym f))
-  pair_answer_lem Taken (Refused r) order e f o = rw (← e, ← f)
-  pair_answer_lem (Refused r) b order e f o = rw (← e)
+  pair_answer_lem (Ok tt) (Ok tt) order e f o = rw (← e, ← f, or_none) (o ∙ order_read (sym e) (sym f))
+  pair_answer_lem (Ok tt) (Err r) order e f o = rw (← e, ← f)
+  pair_answer_lem (Err r) b order e f o = rw (← e)
 
   -- the row of tests, from the pair's answer and the count of what was read
   pub tests_are : (v : Vehicle) (room : ℕ) →
@@ -81,24 +80,24 @@ module _ (first second : List ℕ) where
       first_refusal (between_tests v first second room)
   tests_are v room = ap (or_else (test 12 (not (eqb v.axles 0)))) (go (read_survey first).answer (read_survey second).answer (order_of first second) (read_count first))
     where
-      go : (a b order : Reading) → (a ≡ Taken → (read_survey first).survey.count ≡ count_of first) →
-          or_else (or_else a (or_else b (or_else order Taken))) (test 14 (leb (2 * (read_survey first).survey.count) room)) ≡
-          or_else a (or_else b (or_else order (or_else (test 14 (leb (2 * count_of first) room)) Taken)))
-      go Taken Taken Taken n = rw (or_none, n refl)
-      go Taken Taken (Refused r) n = refl
-      go Taken (Refused r) order n = refl
-      go (Refused r) b order n = refl
+      go : (a b order : Reading) → (a ≡ (Ok tt) → (read_survey first).survey.count ≡ count_of first) →
+          or_else (or_else a (or_else b (or_else order (Ok tt)))) (test 14 (leb (2 * (read_survey first).survey.count) room)) ≡
+          or_else a (or_else b (or_else order (or_else (test 14 (leb (2 * count_of first) room)) (Ok tt))))
+      go (Ok tt) (Ok tt) (Ok tt) n = rw (or_none, n refl)
+      go (Ok tt) (Ok tt) (Err r) n = refl
+      go (Ok tt) (Err r) order n = refl
+      go (Err r) b order n = refl
 
 -- what holds where no test fails
 pub record Passed (v : Vehicle) (first second : List ℕ) (room : ℕ) : Type 0 where
   pub vehicle : 0 < v.axles
-  pub first_taken : (read_survey first).answer ≡ Taken
-  pub second_taken : (read_survey second).answer ≡ Taken
-  pub order : order_of first second ≡ Taken
+  pub first_taken : (read_survey first).answer ≡ (Ok tt)
+  pub second_taken : (read_survey second).answer ≡ (Ok tt)
+  pub order : order_of first second ≡ (Ok tt)
   pub room_enough : 2 * count_of first ≤ room
 
 module _ (v : Vehicle) (first second : List ℕ) (room : ℕ) where
-  pub all_passed : first_refusal (between_tests v first second room) ≡ Taken → Passed v first second room
+  pub all_passed : first_refusal (between_tests v first second room) ≡ (Ok tt) → Passed v first second room
   all_passed e =
       let (vehicle, files) = both_taken _ _ e in
       let (a, rest) = both_taken _ _ files in
@@ -113,7 +112,7 @@ module _ (v : Vehicle) (first second : List ℕ) (room : ℕ) where
         room_enough = leb-true _ _ (test_holds 14 _ enough);
       }
 
-  pub passed_all : Passed v first second room → first_refusal (between_tests v first second room) ≡ Taken
+  pub passed_all : Passed v first second room → first_refusal (between_tests v first second room) ≡ (Ok tt)
   passed_all p = rw (ne_eqb v.axles 0 (omega (arith, p.vehicle)), p.first_taken, p.second_taken, p.order, le-leb _ _ p.room_enough)
 
   -- the answer by the tests: none fails
@@ -127,7 +126,7 @@ module _ (v : Vehicle) (first second : List ℕ) (room : ℕ) where
     verdict_given e = rw (passed_all p, e, read_members first p.first_taken, read_members second p.second_taken)
 
   -- or one does
-  pub refusal_given : (r : Refusal) → first_refusal (between_tests v first second room) ≡ Refused r → NotJudged r ≡ answered_between v first second room
+  pub refusal_given : (r : Refusal) → first_refusal (between_tests v first second room) ≡ Err r → NotJudged r ≡ answered_between v first second room
   unfolding answered_between
   refusal_given r e = rw e
 
@@ -142,6 +141,6 @@ module _ (v : Vehicle) (first second list : List ℕ) where
       rw (passed_all v first second (length list) p, e, read_count first p.first_taken)
       (bounds_same (count_of first) list (λ i l. ap (permitted_for v) (taken_record second p.second_taken i _ (omega arith))) (λ i l. ap (permitted_for v) (taken_record first p.first_taken i _ l)))
 
-  pub list_kept : (r : Refusal) → first_refusal (between_tests v first second (length list)) ≡ Refused r → list ≡ between_list v first second list
+  pub list_kept : (r : Refusal) → first_refusal (between_tests v first second (length list)) ≡ Err r → list ≡ between_list v first second list
   unfolding between_list
   list_kept r e = rw e

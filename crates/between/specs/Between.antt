@@ -1,19 +1,17 @@
 -- The bounds and the verdict of two surveys for a vehicle. Document 02, request 5/13: "Rot between two readings."
-use Rattle.std.specs.Prelude.{ℕ, zero, suc, ◌*◌, not, List, [], ◌∷◌, ◌++◌, eqb, leb, length, drop}
+use Rattle.std.specs.Prelude.{ℕ, zero, suc, ◌*◌, not, List, [], ◌∷◌, ◌++◌, eqb, leb, length, drop, Ok, Err}
 use Rattle.member.specs.declared.record.Vehicle.{Vehicle}
 use Rattle.rating.specs.Judgement.{permitted_for, judgement_of}
 use Rattle.rating.specs.declared.judging.Verdict.{Verdict}
 use Rattle.rating.specs.declared.judging.Verdict.TheVariants.{Pass, Refuse}
-use Rattle.files.specs.Reading.{test, first_refusal}
+use Rattle.files.specs.Reading.{Reading, test, first_refusal}
 use Rattle.surveys.specs.SurveyFile.{count_of, record_at, records_of, read_survey}
-use Rattle.files.specs.declared.Reading.{Reading}
-use Rattle.files.specs.declared.Reading.TheVariants.{Taken, Refused}
 use Rattle.between.specs.Order.{order_of}
 use Rattle.between.specs.declared.Between.{Between}
 use Rattle.between.specs.declared.Between.TheVariants.{All, None, Undecided}
 use Rattle.between.specs.declared.BetweenJudged.{BetweenJudged}
 use Rattle.between.specs.declared.BetweenJudged.TheVariants.{Verdict as Given}
-use Rattle.between.specs.declared.BetweenJudged.TheVariants.{Refused as NotJudged}
+use Rattle.between.specs.declared.BetweenJudged.TheVariants.{Err as NotJudged}
 
 -- two files' own refusals, and their order
 abbrev pub pair_tests : (first second : List ℕ) → List Reading
@@ -44,12 +42,12 @@ bounds_written lowest highest n list = in_turn lowest highest n ++ drop (2 * n) 
 
 -- by the tests: the verdict, or the refusal; and the list filled, or as it was: a refusal writes nothing
 abbrev pub given : Reading → Between → BetweenJudged
-given Taken verdict = Given verdict
-given (Refused r) verdict = NotJudged r
+given (Ok tt) verdict = Given verdict
+given (Err r) verdict = NotJudged r
 
 abbrev pub kept : Reading → (list filled : List ℕ) → List ℕ
-kept Taken list filled = filled
-kept (Refused r) list filled = list
+kept (Ok tt) list filled = filled
+kept (Err r) list filled = list
 
 module _ (v : Vehicle) where
   -- for the vehicle: the permitted load of the member of index i of a survey file, from 0, and the verdict of its bridge

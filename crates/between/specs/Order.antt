@@ -6,10 +6,9 @@ use Rattle.member.specs.Fields.{KIND, CODE, FIELDS, field}
 use Rattle.member.specs.Format.{holds}
 use Rattle.member.specs.Wear.{rots, lost_fields, wears, Worn, SpreadKept}
 use Rattle.member.specs.declared.record.Member.{Member}
-use Rattle.files.specs.Reading.{◌unless◌, first_fault}
+use Rattle.files.specs.Reading.{Reading, ◌unless◌, first_fault}
 use Rattle.surveys.specs.SurveyFile.{count_of, record_at}
 use Rattle.files.specs.Words.{each}
-use Rattle.files.specs.declared.Reading.{Reading}
 
 -- "For kind 7 the records must have the same rot and losses, deck rot included."
 unfoldable pub must_stay : (kind code f : ℕ) → Bool

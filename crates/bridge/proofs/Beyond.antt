@@ -16,7 +16,7 @@ use Rattle.files.specs.Reading.{◌unless◌, first_of, is_in}
 use Rattle.files.specs.Header.{version_of, marked, header_fault}
 use Rattle.surveys.specs.SurveyFile.{count_of}
 use Rattle.vehicles.specs.VehicleFile.{VEHICLE_HEADER, LONGEST_AXLE, VEHICLE_VERSIONS, axle_size, axles_of, axle_faults, blank_vehicle, vehicle_header, vehicle_answer, read_vehicle_of, read_vehicle}
-use Rattle.vehicles.specs.declared.VehicleRead.{VehicleRead}
+use Rattle.vehicles.specs.VehicleFile.{VehicleRead}
 use Rattle.section.proofs.Products.{product_cap}
 use Rattle.files.proofs.Tests.{first_is}
 use Rattle.files.proofs.Faults.{refusal, head_first}

@@ -1,5 +1,6 @@
 -- What is claimed of the converter, proved.
 -- Assumes nothing.
+use Rattle.std.specs.Prelude.{Ok, Err}
 use Prim.Native.Nat.{ℕ, ◌≤◌, ◌<◌}
 use mathlib.Core.Path.{◌≡◌, refl, subst, ◌∙◌}
 use mathlib.Core.Bool.{true}
@@ -15,7 +16,6 @@ use Rattle.files.specs.Header.{version_of}
 use Rattle.files.specs.Reading.{first_refusal}
 use Rattle.files.specs.Words.{Bytes}
 use Rattle.files.specs.Writing.{onto}
-use Rattle.files.specs.declared.Reading.TheVariants.{Taken}
 use Rattle.vehicles.specs.VehicleFile.{VEHICLE_VERSIONS, axles_of, weight_at, weights_in, vehicle_of, read_vehicle}
 use Rattle.vehicles.specs.Allowed.{AllowedVehicleOf}
 use Rattle.vehicles.specs.Alike.{SameNumbers}
@@ -67,7 +67,7 @@ unfolding weights_in
 fitted Version1 n h = le-leb _ _ h.1
 fitted Version2 n h = refl
 
-module _ (wanted : Wanted) (file : List ℕ) (accepted : Accepted wanted file) (light : heavy_answer wanted (vehicle_of file) ≡ Taken) where
+module _ (wanted : Wanted) (file : List ℕ) (accepted : Accepted wanted file) (light : heavy_answer wanted (vehicle_of file) ≡ (Ok tt)) where
   -- the weights are in the range of the wanted version
   fit : (i : ℕ) → i < axles_of file → In (weights_in (wanted_version wanted)) (weight_at file i)
   fit i l = rw (weight_is file i l) at (fitting wanted _ (accepted.vehicle.weights i l) (fits_all wanted file light i l))
@@ -106,7 +106,7 @@ module _ (wanted : Wanted) (file : List ℕ) (accepted : Accepted wanted file) (
       }
 
   module _ (small : Bytes file) (out' : List ℕ) (h : length file ≤ length out') where
-    passed_back : first_refusal (convert_tests (back wanted) (output wanted file) (length out')) ≡ Taken
+    passed_back : first_refusal (convert_tests (back wanted) (output wanted file) (length out')) ≡ (Ok tt)
     passed_back = passed_all (back wanted) (output wanted file) (length out') (back_passed small (length out') h)
 
     back_taken : converted (back wanted) (output wanted file) (length out') ≡ Values (length file ∷ [])

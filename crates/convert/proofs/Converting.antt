@@ -1,5 +1,6 @@
 -- The converter's tests: those that the code makes come to the definition's, and what passes them all is written.
 -- Assumes nothing.
+use Rattle.std.specs.Prelude.{Ok, Err}
 use Prim.Native.Nat.{ℕ, ◌+◌, ◌*◌, ◌≤◌}
 use mathlib.Core.Path.{◌≡◌, refl, ap}
 use mathlib.Core.List.{List}
@@ -11,17 +12,15 @@ use borrow.Author.Tests.{leb-true, le-leb}
 use Rattle.section.proofs.Products.{product_cap}
 use Rattle.member.specs.Fields.{MOST_AXLES}
 use Rattle.member.specs.declared.record.Vehicle.{Vehicle}
-use Rattle.files.specs.Reading.{or_else, test, first_refusal}
-use Rattle.files.specs.declared.Reading.{Reading}
-use Rattle.files.specs.declared.Reading.TheVariants.{Taken, Refused}
+use Rattle.files.specs.Reading.{Reading, or_else, test, first_refusal}
 use Rattle.files.specs.declared.Refusal.{Refusal}
 use Rattle.files.specs.Writing.{written_answer}
 use Rattle.files.specs.declared.output.Written.{Written}
 use Rattle.files.specs.declared.output.Written.TheVariants.{Bytes}
-use Rattle.files.specs.declared.output.Written.TheVariants.{Refused as NotWritten}
+use Rattle.files.specs.declared.output.Written.TheVariants.{Err as NotWritten}
 use Rattle.files.proofs.Faults.{both_taken, or_none, test_holds}
 use Rattle.vehicles.specs.VehicleFile.{VEHICLE_HEADER, LONGEST_AXLE, axle_size, vehicle_of, read_vehicle_of}
-use Rattle.vehicles.specs.declared.VehicleRead.{VehicleRead}
+use Rattle.vehicles.specs.VehicleFile.{VehicleRead}
 use Rattle.vehicles.proofs.Axles.{longest_axle}
 use Rattle.vehicles.proofs.Vehicles.{few_axles, taken_vehicle}
 use Rattle.convert.specs.VehicleBytes.{LONGEST_FILE}
@@ -39,27 +38,27 @@ module _ (wanted : Wanted) (file : List ℕ) where
       first_refusal (convert_tests wanted file room)
   tests_are room = go given_read.answer (taken_vehicle _ file)
     where
-      go : (a : Reading) → (a ≡ Taken → given_read.vehicle ≡ vehicle_of file) →
+      go : (a : Reading) → (a ≡ (Ok tt) → given_read.vehicle ≡ vehicle_of file) →
           or_else a (or_else (heavy_answer wanted given_read.vehicle) (test 14 (leb (VEHICLE_HEADER + axle_size (wanted_version wanted) * given_read.vehicle.axles) room))) ≡
-          or_else a (or_else (heavy_answer wanted (vehicle_of file)) (or_else (test 14 (leb (length (output wanted file)) room)) Taken))
-      go Taken same = rw (same refl, or_none, length_vehicle (wanted_version wanted) (vehicle_of file))
-      go (Refused r) same = refl
+          or_else a (or_else (heavy_answer wanted (vehicle_of file)) (or_else (test 14 (leb (length (output wanted file)) room)) (Ok tt)))
+      go (Ok tt) same = rw (same refl, or_none, length_vehicle (wanted_version wanted) (vehicle_of file))
+      go (Err r) same = refl
 
   -- what holds where no test fails
   pub record Passed (room : ℕ) : Type 0 where
-    pub taken : given_read.answer ≡ Taken
-    pub light : heavy_answer wanted (vehicle_of file) ≡ Taken
+    pub taken : given_read.answer ≡ (Ok tt)
+    pub light : heavy_answer wanted (vehicle_of file) ≡ (Ok tt)
     pub room_enough : length (output wanted file) ≤ room
 
   module _ (room : ℕ) where
-    pub all_passed : first_refusal (convert_tests wanted file room) ≡ Taken → Passed room
+    pub all_passed : first_refusal (convert_tests wanted file room) ≡ (Ok tt) → Passed room
     all_passed e =
         let (own, rest) = both_taken _ _ e in
         let (light, end) = both_taken _ _ rest in
         let (enough, none) = both_taken _ _ end in
         record { taken = own; light = light; room_enough = leb-true _ _ (test_holds 14 _ enough) }
 
-    pub passed_all : Passed room → first_refusal (convert_tests wanted file room) ≡ Taken
+    pub passed_all : Passed room → first_refusal (convert_tests wanted file room) ≡ (Ok tt)
     passed_all p = rw (p.taken, p.light, le-leb _ _ p.room_enough)
 
     -- what is worked out where none fails, and where one does
@@ -72,7 +71,7 @@ module _ (wanted : Wanted) (file : List ℕ) where
         let size = length_vehicle (wanted_version wanted) (vehicle_of file) in
         (rw (passed_all p, e), (rw (passed_all p, e) b, (rw (passed_all p) e, (omega (arith, e, size, cap), omega (arith, e, p.room_enough)))))
 
-    pub work_refused : (r : Refusal) → first_refusal (convert_tests wanted file room) ≡ Refused r → {answer : Written} (bytes : List ℕ) {n : ℕ} → answer ≡ NotWritten r → n ≡ 0 →
+    pub work_refused : (r : Refusal) → first_refusal (convert_tests wanted file room) ≡ Err r → {answer : Written} (bytes : List ℕ) {n : ℕ} → answer ≡ NotWritten r → n ≡ 0 →
         (written_answer answer ≡ converted wanted file room) × ((take n bytes ≡ converted_bytes wanted file room) × ((n ≡ length (converted_bytes wanted file room)) × ((n ≤ LONGEST_FILE) × (n ≤ room))))
     unfolding converted converted_bytes
     work_refused r e bytes a z = (rw (a, e), (rw (z, e), (rw (z, e), (omega arith, omega arith))))

@@ -1,5 +1,6 @@
 -- A refusal of the converter names its fault, and a fault its refusal: the tests in their order come to the plain words.
 -- Assumes nothing.
+use Rattle.std.specs.Prelude.{Ok, Err}
 use Prim.Native.Nat.{ℕ, ◌+◌, ◌≤◌, ◌<◌}
 use mathlib.Core.Path.{◌≡◌, refl, sym}
 use mathlib.Core.Bool.{Bool, true, false, false≢true}
@@ -14,7 +15,6 @@ use Rattle.member.specs.Format.{In}
 use Rattle.files.specs.Header.{version_of}
 use Rattle.files.specs.Reading.{first_refusal}
 use Rattle.files.specs.Refused.{wrong_mark}
-use Rattle.files.specs.declared.Reading.TheVariants.{Taken, Refused}
 use Rattle.files.specs.declared.Refusal.{Refusal}
 use Rattle.files.proofs.Faults.{refusal, reading_case, all_hold, hold_all, first_failing, failing_named}
 use Rattle.vehicles.specs.VehicleFile.{axles_of, vehicle_of}
@@ -33,11 +33,11 @@ module _ (wanted : Wanted) (file : List ℕ) where
   abbrev fits : (i : ℕ) → Bool
   fits i = weight_fits wanted (weight (vehicle_of file).weights i)
 
-  pub fits_all : heavy_answer wanted (vehicle_of file) ≡ Taken → (i : ℕ) → i < axles_of file → fits i ≡ true
+  pub fits_all : heavy_answer wanted (vehicle_of file) ≡ (Ok tt) → (i : ℕ) → i < axles_of file → fits i ≡ true
   unfolding heavy_answer
   fits_all e = all_hold 17 (omega arith) fits (axles_of file) e
 
-  pub all_fit : ((i : ℕ) → i < axles_of file → fits i ≡ true) → heavy_answer wanted (vehicle_of file) ≡ Taken
+  pub all_fit : ((i : ℕ) → i < axles_of file → fits i ≡ true) → heavy_answer wanted (vehicle_of file) ≡ (Ok tt)
   unfolding heavy_answer
   all_fit h = hold_all 17 (omega arith) fits (axles_of file) h
 
@@ -45,7 +45,7 @@ module _ (wanted : Wanted) (file : List ℕ) where
   unfolding heavy_answer
   first_heavy i l before f = first_failing 17 (omega arith) fits i (axles_of file) l before f
 
-  heavy_named : (r : Refusal) → heavy_answer wanted (vehicle_of file) ≡ Refused r → (i : ℕ) × (i < axles_of file) × ((k : ℕ) → k < i → fits k ≡ true) × (fits i ≡ false)
+  heavy_named : (r : Refusal) → heavy_answer wanted (vehicle_of file) ≡ Err r → (i : ℕ) × (i < axles_of file) × ((k : ℕ) → k < i → fits k ≡ true) × (fits i ≡ false)
   unfolding heavy_answer
   heavy_named r e = failing_named 17 (omega arith) fits (axles_of file) r e
 
@@ -119,7 +119,7 @@ module _ (wanted : Wanted) (file : List ℕ) where
               | no s ↦ inr (14, 0, short_output a fit (omega arith))
             ]
 
-        heavy : Accepted wanted file → (r : Refusal) → heavy_answer wanted (vehicle_of file) ≡ Refused r → Outcome
+        heavy : Accepted wanted file → (r : Refusal) → heavy_answer wanted (vehicle_of file) ≡ Err r → Outcome
         heavy a r e =
             let (i, l, before, fails) = heavy_named wanted file r e in
             let (back, above) = fails_heavy wanted _ fails in

@@ -6,8 +6,7 @@ use Rattle.member.specs.declared.record.Vehicle.{Vehicle}
 use Rattle.files.specs.Answer.{Answer}
 use Rattle.files.specs.Writing.{answer_by, bytes_by, onto}
 use Rattle.files.specs.Words.{each}
-use Rattle.files.specs.Reading.{◌unless◌, first_fault, test, first_refusal}
-use Rattle.files.specs.declared.Reading.{Reading}
+use Rattle.files.specs.Reading.{Reading, ◌unless◌, first_fault, test, first_refusal}
 use Rattle.vehicles.specs.VehicleFile.{vehicle_of, read_vehicle_of}
 use Rattle.convert.specs.VehicleBytes.{vehicle_bytes}
 use Rattle.convert.specs.declared.Wanted.{Wanted}

@@ -1,6 +1,7 @@
 -- A refusal of the coupling names its fault, and a fault its refusal: the tests in their order come to the plain words. What is coupled then is the
 -- files' vehicles.
 -- Assumes nothing.
+use Rattle.std.specs.Prelude.{Ok, Err}
 use Prim.Native.Nat.{ℕ, ◌+◌, ◌≤◌}
 use mathlib.Core.Path.{◌≡◌, sym, ◌∙◌}
 use mathlib.Core.Bool.{Bool, true, ◌&&◌}
@@ -14,12 +15,11 @@ use Rattle.section.proofs.Choices.{decided}
 use Rattle.member.specs.Fields.{MOST_AXLES}
 use Rattle.member.specs.Format.{AllowedVehicle}
 use Rattle.files.specs.Reading.{is_in, test, first_refusal}
-use Rattle.files.specs.declared.Reading.TheVariants.{Taken}
 use Rattle.files.proofs.Faults.{refusal, refused_not}
 use Rattle.files.proofs.Tests.{both, refutes, in_range, range_in}
 use Rattle.vehicles.specs.VehicleFile.{VEHICLE_VERSIONS, class_of, track_of, axles_of, vehicle_of, read_vehicle}
 use Rattle.vehicles.specs.Allowed.{AllowedVehicleFile}
-use Rattle.vehicles.specs.declared.VehicleRead.{VehicleRead}
+use Rattle.vehicles.specs.VehicleFile.{VehicleRead}
 use Rattle.vehicles.proofs.Vehicles as vehicles
 use Rattle.couple.specs.Couple.{gap_range, may_follow, few_enough, coupled_vehicle, couple_tests, couple}
 use Rattle.couple.proofs.Vehicles.{coupled_allowed}
@@ -27,7 +27,7 @@ use Rattle.couple.specs.Fault.{BothAllowed, Fitting, CoupleFault, first_refused,
 
 module _ (first second : List ℕ) (gap : ℕ) where
   -- an allowed file is read, and is the vehicle that is coupled
-  taken : (file : List ℕ) → AllowedVehicleFile file → (read_vehicle file).answer ≡ Taken
+  taken : (file : List ℕ) → AllowedVehicleFile file → (read_vehicle file).answer ≡ (Ok tt)
   taken file = vehicles.allowed_taken VEHICLE_VERSIONS file
 
   read : (file : List ℕ) → AllowedVehicleFile file → (read_vehicle file).vehicle ≡ vehicle_of file
@@ -61,7 +61,7 @@ module _ (first second : List ℕ) (gap : ℕ) where
   fault_refused n p (not_fitting b f) = pair_decides b ∙ rw (refutes fits fits_fitting f)
   fault_refused n p (too_many b f l) = pair_decides b ∙ rw (fitting_fits f, lt-leb (axles_of first + axles_of second) MOST_AXLES l)
 
-  pub good_taken : MayBeCoupled first second gap → first_refusal (couple_tests first second gap) ≡ Taken
+  pub good_taken : MayBeCoupled first second gap → first_refusal (couple_tests first second gap) ≡ (Ok tt)
   good_taken g = pair_decides g.allowed ∙ rw (fitting_fits g.fitting, le-leb (axles_of first + axles_of second) MOST_AXLES g.axles)
 
   abbrev Outcome : Type 0
@@ -85,12 +85,12 @@ module _ (first second : List ℕ) (gap : ℕ) where
       paired b = ⊎_elim (λ e. counted b (fits_fitting e)) (λ e. inr (7, 0, not_fitting b (λ f. mathlib.Core.Bool.true≢false (sym (fitting_fits f) ∙ e)))) (decided fits)
 
   -- what is then read
-  pub coupled_read : MayBeCoupled first second gap → ◌≡◌ {A = VehicleRead} (couple first second gap) (record { answer = Taken; vehicle = coupled_vehicle (vehicle_of first) (vehicle_of second) gap })
+  pub coupled_read : MayBeCoupled first second gap → ◌≡◌ {A = VehicleRead} (couple first second gap) (record { answer = (Ok tt); vehicle = coupled_vehicle (vehicle_of first) (vehicle_of second) gap })
   unfolding couple
   coupled_read g = rw (good_taken g, read first g.allowed.first_allowed, read second g.allowed.second_allowed)
 
   -- a pair that is taken may be coupled, and gives what a vehicle may be
-  pub taken_good : (couple first second gap).answer ≡ Taken → MayBeCoupled first second gap
+  pub taken_good : (couple first second gap).answer ≡ (Ok tt) → MayBeCoupled first second gap
   unfolding couple
   taken_good e =
       ⊎_elim (λ g. g) (λ (n, p, f). absurd (refused_not n p (sym (fault_refused n p f) ∙ e))) good_or_fault
@@ -99,9 +99,9 @@ module _ (first second : List ℕ) (gap : ℕ) where
   vehicle_allowed g =
       coupled_allowed (vehicle_of first) (vehicle_of second) gap g.allowed.first_allowed.vehicle g.allowed.second_allowed.vehicle g.fitting.class g.fitting.track g.fitting.gap_stated g.axles
 
-  pub taken_allowed : (couple first second gap).answer ≡ Taken → AllowedVehicle (couple first second gap).vehicle
+  pub taken_allowed : (couple first second gap).answer ≡ (Ok tt) → AllowedVehicle (couple first second gap).vehicle
   taken_allowed e = rw (coupled_read (taken_good e)) (vehicle_allowed (taken_good e))
 
   -- the code has room for what it couples
-  pub room_enough : (couple first second gap).answer ≡ Taken → (read_vehicle first).vehicle.axles + (read_vehicle second).vehicle.axles ≤ MOST_AXLES
+  pub room_enough : (couple first second gap).answer ≡ (Ok tt) → (read_vehicle first).vehicle.axles + (read_vehicle second).vehicle.axles ≤ MOST_AXLES
   room_enough e = let g = taken_good e in rw (read first g.allowed.first_allowed, read second g.allowed.second_allowed) g.axles

@@ -1,17 +1,15 @@
 -- Two vehicle files coupled. Document 02, request 13/13: "Lorry and trailer coupled. .. Join two vehicle files of equal class and track, the
 -- second's axles behind the first's with one stated gap of 1..2000 cm".
-use Rattle.std.specs.Prelude.{ℕ, ◌+◌, ◌-◌, Bool, ◌&&◌, List, [], ◌∷◌, ◌++◌, eqb, leb, replicate}
+use Rattle.std.specs.Prelude.{ℕ, ◌+◌, ◌-◌, Bool, ◌&&◌, List, [], ◌∷◌, ◌++◌, eqb, leb, replicate, Ok, Err}
 use Rattle.section.specs.Choose.{choose}
 use Rattle.section.specs.Units.{centimetres, kgf, weight, distance}
 use Rattle.member.specs.Fields.{MOST_AXLES}
 use Rattle.member.specs.Format.{Range, ◌‥◌}
 use Rattle.member.specs.declared.record.Vehicle.{Vehicle}
 use Rattle.files.specs.Words.{each}
-use Rattle.files.specs.Reading.{is_in, test, first_refusal}
-use Rattle.files.specs.declared.Reading.{Reading}
-use Rattle.files.specs.declared.Reading.TheVariants.{Taken, Refused}
+use Rattle.files.specs.Reading.{Reading, is_in, test, first_refusal}
 use Rattle.vehicles.specs.VehicleFile.{read_vehicle, blank_vehicle}
-use Rattle.vehicles.specs.declared.VehicleRead.{VehicleRead}
+use Rattle.vehicles.specs.VehicleFile.{VehicleRead}
 
 -- "one stated gap of 1..2000 cm"
 abbrev pub gap_range : Range
@@ -69,8 +67,8 @@ module _ (first second : List ℕ) (gap : ℕ) where
 
   -- a refused pair gives a blank vehicle
   abbrev pub coupled_by : Reading → Vehicle
-  coupled_by Taken = coupled_vehicle (read_vehicle first).vehicle (read_vehicle second).vehicle gap
-  coupled_by (Refused r) = blank_vehicle
+  coupled_by (Ok tt) = coupled_vehicle (read_vehicle first).vehicle (read_vehicle second).vehicle gap
+  coupled_by (Err r) = blank_vehicle
 
   unfoldable pub couple : VehicleRead
   couple = record { answer = first_refusal couple_tests; vehicle = coupled_by (first_refusal couple_tests) }

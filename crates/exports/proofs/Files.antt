@@ -1,5 +1,6 @@
 -- The members' loads by the answer of the two loads: a refusal ends the calls with the list as it was, and a session in which both
 -- files are loaded has as many members as the survey file says.
+use Rattle.std.specs.Prelude.{Ok, Err}
 use Prim.Native.Nat.{ℕ, ◌<◌}
 use mathlib.Core.Path.{◌≡◌, ap, ◌∙◌}
 use mathlib.Core.List.{List}
@@ -8,7 +9,6 @@ use lib.ListN.{length}
 use Rattle.member.specs.declared.record.Survey.{Survey}
 use Rattle.surveys.specs.Allowed.{AllowedSurveyFile}
 use Rattle.surveys.specs.SurveyFile.{count_of, survey_of}
-use Rattle.files.specs.declared.Reading.TheVariants.{Taken, Refused}
 use Rattle.files.specs.declared.Refusal.{Refusal}
 use Rattle.session.specs.Answers.{Outcome, loaded, judged, judge_answer, refused_by}
 use Rattle.session.specs.Calls.{load_files, judge, judge_list}
@@ -20,12 +20,12 @@ use Rattle.exports.specs.Loads.{loads_of, member_loads, member_list}
 use Rattle.exports.specs.declared.Loads.{Loads}
 
 module _ (survey vehicle list : List ℕ) (o : AfterLoad) (both : loaded o ≡ load_files survey vehicle) where
-  pub refused : (f : Refusal) (r : Loads) → o.answer ≡ Refused f → r ≡ loads_of (refused_by f) 0 →
+  pub refused : (f : Refusal) (r : Loads) → o.answer ≡ Err f → r ≡ loads_of (refused_by f) 0 →
       (r ≡ member_loads survey vehicle list) × (list ≡ member_list survey vehicle list)
   unfolding member_loads member_list
   refused f r e is = (rw (is, ← both, e), rw (← both, e))
 
-  module _ (taken : o.answer ≡ Taken) where
+  module _ (taken : o.answer ≡ (Ok tt)) where
     held : AllowedSurveyFile survey × ((load_files survey vehicle).session.survey ≡ survey_of survey)
     held = files_held survey vehicle (rw (← both, taken))
 

@@ -1,11 +1,11 @@
 -- The numbers of a yard by the answer of the survey's load: a refusal ends the calls with the list as it was. Else what `yard_answers` found
 -- is counted and written, and where it found a refusal that is no vehicle and no number.
+use Rattle.std.specs.Prelude.{Ok, Err}
 use Prim.Native.Nat.{ℕ, ◌*◌}
 use mathlib.Core.Path.{◌≡◌, refl, ap}
 use mathlib.Core.List.{List, [], ◌++◌}
 use lib.ListN.{take, drop}
 use Rattle.vehicles.specs.YardFile.{vehicles_of}
-use Rattle.files.specs.declared.Reading.TheVariants.{Taken, Refused}
 use Rattle.files.specs.declared.Refusal.{Refusal}
 use Rattle.session.specs.Answers.{Answer, Values, WithMargin, WithDeflection, RefusedAt, Outcome, loaded, yard_answer, refused_by}
 use Rattle.session.specs.Calls.{new_session, load_survey, unless_refused}
@@ -32,12 +32,12 @@ written (WithDeflection values deflection) list vehicles all e f = rw (e, f)
 written (RefusedAt number place) list vehicles all e f = rw (e, f)
 
 module _ (survey yard list : List ℕ) (o : AfterLoad) (load : loaded o ≡ load_survey new_session survey) where
-  pub refused : (f : Refusal) (r : YardNumbers) → o.answer ≡ Refused f → r ≡ yard_numbers_of (refused_by f) 0 →
+  pub refused : (f : Refusal) (r : YardNumbers) → o.answer ≡ Err f → r ≡ yard_numbers_of (refused_by f) 0 →
       (r ≡ yard_numbers survey yard list) × (list ≡ yard_number_list survey yard list)
   unfolding yard_numbers yard_number_list
   refused f r e is = (rw (is, ← load, e), rw (← load, e))
 
-  module _ (taken : o.answer ≡ Taken) where
+  module _ (taken : o.answer ≡ (Ok tt)) where
     outcome : yard_outcome survey yard list ≡ record { session = o.session; answer = answered_yard o.session yard (room_of list) }
     outcome = rw (← load, taken)
 

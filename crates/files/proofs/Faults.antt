@@ -16,43 +16,43 @@ use Rattle.section.specs.Choose.{choose}
 use Rattle.files.specs.Words.{each}
 use Rattle.files.specs.Reading.{◌unless◌, first_fault, or_else, test, number_of, place_of}
 use Rattle.files.specs.declared.Refusal.{Refusal}
-use Rattle.files.specs.declared.Reading.{Reading}
-use Rattle.files.specs.declared.Reading.TheVariants.{Taken, Refused}
+use Rattle.files.specs.Reading.{Reading}
+use Rattle.std.specs.Prelude.{Ok, Err, ⊤}
 use Rattle.files.proofs.Each.{each_split, length_each, getD_each}
 use Rattle.files.proofs.Tests.{passed, refutes}
 
 -- the answer for a fault at a place
 abbrev pub refusal : (number place : ℕ) → Reading
-refusal number place = Refused (record { number = number; place = place })
+refusal number place = Err (record { number = number; place = place })
 
-pub refused_not : (number place : ℕ) → refusal number place ≡ Taken → ⊥
+pub refused_not : (number place : ℕ) → refusal number place ≡ (Ok tt) → ⊥
 refused_not number place e = let z : ◌≡◌ {A = ℕ} 0 1 = cc in omega arith
 
 -- an answer is one of the two
-pub reading_case : (a : Reading) (P : Reading → Type 0) → (a ≡ Taken → P Taken) → ((r : Refusal) → a ≡ Refused r → P (Refused r)) → P a
-reading_case Taken P t f = t refl
-reading_case (Refused r) P t f = f r refl
+pub reading_case : (a : Reading) (P : Reading → Type 0) → (a ≡ (Ok tt) → P (Ok tt)) → ((r : Refusal) → a ≡ Err r → P (Err r)) → P a
+reading_case (Ok tt) P t f = t refl
+reading_case (Err r) P t f = f r refl
 
 -- of two answers, one after the other: both take, or the first that refuses decides
-pub both_taken : (a b : Reading) → or_else a b ≡ Taken → (a ≡ Taken) × (b ≡ Taken)
-both_taken Taken b e = (refl, e)
-both_taken (Refused r) b e = absurd (refused_not r.number r.place e)
+pub both_taken : (a b : Reading) → or_else a b ≡ (Ok tt) → (a ≡ (Ok tt)) × (b ≡ (Ok tt))
+both_taken (Ok tt) b e = (refl, e)
+both_taken (Err r) b e = absurd (refused_not r.number r.place e)
 
-pub one_refused : (a b : Reading) (r : Refusal) → or_else a b ≡ Refused r → (a ≡ Refused r) ⊎ ((a ≡ Taken) × (b ≡ Refused r))
-one_refused Taken b r e = inr (refl, e)
-one_refused (Refused q) b r e = inl e
+pub one_refused : (a b : Reading) (r : Refusal) → or_else a b ≡ Err r → (a ≡ Err r) ⊎ ((a ≡ (Ok tt)) × (b ≡ Err r))
+one_refused (Ok tt) b r e = inr (refl, e)
+one_refused (Err q) b r e = inl e
 
 -- two tests and the rest of their row
 pub or_else_row : (a b rest : Reading) → or_else (or_else a b) rest ≡ or_else a (or_else b rest)
-or_else_row Taken b rest = refl
-or_else_row (Refused r) b rest = refl
+or_else_row (Ok tt) b rest = refl
+or_else_row (Err r) b rest = refl
 
 -- a test, and a row of tests, that finds nothing
-pub or_none : (a : Reading) → or_else a Taken ≡ a
-or_none Taken = refl
-or_none (Refused r) = refl
+pub or_none : (a : Reading) → or_else a (Ok tt) ≡ a
+or_none (Ok tt) = refl
+or_none (Err r) = refl
 
-pub test_holds : (number : ℕ) (holds : Bool) → test number holds ≡ Taken → holds ≡ true
+pub test_holds : (number : ℕ) (holds : Bool) → test number holds ≡ (Ok tt) → holds ≡ true
 test_holds number true e = refl
 test_holds number false e = absurd (refused_not number 0 e)
 
@@ -64,37 +64,37 @@ pub head_clear : (place head : ℕ) (rest : List ℕ) → head ≡ 0 → first_f
 head_clear place head rest e = rw e
 
 -- where the first of a list have no fault, the rest decide
-pub skip : (place : ℕ) (ns rest : List ℕ) → first_fault place ns ≡ Taken → first_fault place (ns ++ rest) ≡ first_fault (place + length ns) rest
+pub skip : (place : ℕ) (ns rest : List ℕ) → first_fault place ns ≡ (Ok tt) → first_fault place (ns ++ rest) ≡ first_fault (place + length ns) rest
 skip place [] rest e = rw add-zero
 skip place (n ∷ ns) rest e = go (eqb n 0) e (skip (suc place) ns rest)
   where
-    go : (b : Bool) → choose b (first_fault (suc place) ns) (refusal n place) ≡ Taken → (first_fault (suc place) ns ≡ Taken → first_fault (suc place) (ns ++ rest) ≡ first_fault (suc place + length ns) rest) → choose b (first_fault (suc place) (ns ++ rest)) (refusal n place) ≡ first_fault (place + suc (length ns)) rest
+    go : (b : Bool) → choose b (first_fault (suc place) ns) (refusal n place) ≡ (Ok tt) → (first_fault (suc place) ns ≡ (Ok tt) → first_fault (suc place) (ns ++ rest) ≡ first_fault (suc place + length ns) rest) → choose b (first_fault (suc place) (ns ++ rest)) (refusal n place) ≡ first_fault (place + suc (length ns)) rest
     go true t more = let step : place + suc (length ns) ≡ suc place + length ns = omega arith in rw step (more t)
     go false t more = absurd (refused_not n place t)
 
 module _ (fault : ℕ → ℕ) (place : ℕ) where
   -- one more without a fault
-  pub clear_more : (i : ℕ) → first_fault place (each fault i) ≡ Taken → fault i ≡ 0 → first_fault place (each fault (i + 1)) ≡ Taken
+  pub clear_more : (i : ℕ) → first_fault place (each fault i) ≡ (Ok tt) → fault i ≡ 0 → first_fault place (each fault (i + 1)) ≡ (Ok tt)
   clear_more i e h = rw add-one (skip place (each fault i) (fault i ∷ []) e ∙ rw h)
 
   -- the first fault
-  pub fault_at : (i n number : ℕ) → i < n → first_fault place (each fault i) ≡ Taken → fault i ≡ number → (number ≡ 0 → ⊥) → first_fault place (each fault n) ≡ refusal number (i + place)
+  pub fault_at : (i n number : ℕ) → i < n → first_fault place (each fault i) ≡ (Ok tt) → fault i ≡ number → (number ≡ 0 → ⊥) → first_fault place (each fault n) ≡ refusal number (i + place)
   fault_at i n number l e at h =
       let split = each_split fault i n l in
       let there : place + i ≡ i + place = omega arith in
       rw (split.1, skip place (each fault i) (fault i ∷ split.0) e, length_each fault i, there, at, ne_eqb number 0 h)
 
 -- a list is taken exactly when none of it is a fault
-pub taken_none : (place : ℕ) (ns : List ℕ) → first_fault place ns ≡ Taken → (k : ℕ) → get_or ns k 0 ≡ 0
+pub taken_none : (place : ℕ) (ns : List ℕ) → first_fault place ns ≡ (Ok tt) → (k : ℕ) → get_or ns k 0 ≡ 0
 taken_none place [] e k = refl
 taken_none place (n ∷ ns) e k = go (eqb n 0) refl e k (taken_none (suc place) ns)
   where
-    go : (b : Bool) → eqb n 0 ≡ b → choose b (first_fault (suc place) ns) (refusal n place) ≡ Taken → (k : ℕ) → (first_fault (suc place) ns ≡ Taken → (j : ℕ) → get_or ns j 0 ≡ 0) → get_or (n ∷ ns) k 0 ≡ 0
+    go : (b : Bool) → eqb n 0 ≡ b → choose b (first_fault (suc place) ns) (refusal n place) ≡ (Ok tt) → (k : ℕ) → (first_fault (suc place) ns ≡ (Ok tt) → (j : ℕ) → get_or ns j 0 ≡ 0) → get_or (n ∷ ns) k 0 ≡ 0
     go true t f zero more = eqb-true n 0 t
     go true t f (suc k) more = more f k
     go false t f k more = absurd (refused_not n place f)
 
-pub none_taken : (place : ℕ) (fault : ℕ → ℕ) (n : ℕ) → ((i : ℕ) → i < n → fault i ≡ 0) → first_fault place (each fault n) ≡ Taken
+pub none_taken : (place : ℕ) (fault : ℕ → ℕ) (n : ℕ) → ((i : ℕ) → i < n → fault i ≡ 0) → first_fault place (each fault n) ≡ (Ok tt)
 none_taken place fault zero h = refl
 none_taken place fault (suc n) h =
     skip place (each fault n) (fault n ∷ []) (none_taken place fault n (λ i l. h i (omega arith))) ∙ rw (h n (omega arith))
@@ -108,11 +108,11 @@ pub record FaultAt (place : ℕ) (ns : List ℕ) (r : Refusal) : Type 0 where
   pub fault : r.number ≡ 0 → ⊥
   pub first : (k : ℕ) → k < r.place - place → get_or ns k 0 ≡ 0
 
-pub refused_at : (place : ℕ) (ns : List ℕ) (r : Refusal) → first_fault place ns ≡ Refused r → FaultAt place ns r
+pub refused_at : (place : ℕ) (ns : List ℕ) (r : Refusal) → first_fault place ns ≡ Err r → FaultAt place ns r
 refused_at place [] r e = absurd (refused_not r.number r.place (sym e))
 refused_at place (n ∷ ns) r e = go (eqb n 0) refl e (refused_at (suc place) ns r)
   where
-    go : (b : Bool) → eqb n 0 ≡ b → choose b (first_fault (suc place) ns) (refusal n place) ≡ Refused r → (first_fault (suc place) ns ≡ Refused r → FaultAt (suc place) ns r) → FaultAt place (n ∷ ns) r
+    go : (b : Bool) → eqb n 0 ≡ b → choose b (first_fault (suc place) ns) (refusal n place) ≡ Err r → (first_fault (suc place) ns ≡ Err r → FaultAt (suc place) ns r) → FaultAt place (n ∷ ns) r
     go true t f more = later (more f) (eqb-true n 0 t)
       where
         later : FaultAt (suc place) ns r → n ≡ 0 → FaultAt place (n ∷ ns) r
@@ -147,16 +147,16 @@ module _ (number : ℕ) (some : 0 < number) (test : ℕ → Bool) where
   abbrev pub failing : ℕ → ℕ
   failing i = number unless test i
 
-  pub all_hold : (n : ℕ) → first_fault 1 (each failing n) ≡ Taken → (i : ℕ) → i < n → test i ≡ true
+  pub all_hold : (n : ℕ) → first_fault 1 (each failing n) ≡ (Ok tt) → (i : ℕ) → i < n → test i ≡ true
   all_hold n e i l = passed number (test i) some (sym (getD_each failing n i 0 l) ∙ taken_none 1 (each failing n) e i)
 
-  pub hold_all : (n : ℕ) → ((i : ℕ) → i < n → test i ≡ true) → first_fault 1 (each failing n) ≡ Taken
+  pub hold_all : (n : ℕ) → ((i : ℕ) → i < n → test i ≡ true) → first_fault 1 (each failing n) ≡ (Ok tt)
   hold_all n h = none_taken 1 failing n (λ i l. ap (λ (b : Bool). number unless b) (h i l))
 
   pub first_failing : (i n : ℕ) → i < n → ((k : ℕ) → k < i → test k ≡ true) → test i ≡ false → first_fault 1 (each failing n) ≡ refusal number (i + 1)
   first_failing i n l before f = fault_at failing 1 i n number l (hold_all i before) (ap (λ (b : Bool). number unless b) f) (omega arith)
 
-  pub failing_named : (n : ℕ) (r : Refusal) → first_fault 1 (each failing n) ≡ Refused r → (i : ℕ) × (i < n) × ((k : ℕ) → k < i → test k ≡ true) × (test i ≡ false)
+  pub failing_named : (n : ℕ) (r : Refusal) → first_fault 1 (each failing n) ≡ Err r → (i : ℕ) × (i < n) × ((k : ℕ) → k < i → test k ≡ true) × (test i ≡ false)
   failing_named n r e =
       let at = refused_at 1 (each failing n) r e in
       let i : ℕ = r.place - 1 in
@@ -176,7 +176,7 @@ module _ (number : ℕ) (some : 0 < number) (n n' : ℕ) (faults : List ℕ) whe
   pub counts_alike : n ≡ n' → counts_first ≡ first_fault 1 faults
   counts_alike e = rw (eq-eqb n n' e)
 
-  pub counts_same : counts_first ≡ Taken → n ≡ n'
+  pub counts_same : counts_first ≡ (Ok tt) → n ≡ n'
   counts_same e =
       elim (ℕ_discrete n n') [
         | yes same ↦ same

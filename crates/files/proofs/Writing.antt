@@ -10,8 +10,8 @@ use lib.Seq.{paste, take-paste, take_all, take_at, drop_at, drop-paste, drop-dro
 use Rattle.files.specs.Answer.{Answer, Values, WithMargin, WithDeflection, RefusedAt}
 use Rattle.files.specs.Words.{in_row}
 use Rattle.files.specs.Writing.{answer_by, bytes_by, onto}
-use Rattle.files.specs.declared.Reading.{Reading}
-use Rattle.files.specs.declared.Reading.TheVariants.{Taken, Refused}
+use Rattle.files.specs.Reading.{Reading}
+use Rattle.std.specs.Prelude.{Ok, Err, ⊤}
 
 -- what is put behind what was put
 pub paste_behind : (row : List ℕ) (at : ℕ) (a b : List ℕ) (n m : ℕ) → at ≤ length row → length a ≡ n → length b ≡ m →
@@ -43,13 +43,13 @@ bytes_in (WithMargin values margin) = 0
 bytes_in (WithDeflection values deflection) = 0
 bytes_in (RefusedAt number place) = 0
 
-pub written_tests : (a : Reading) (m n : ℕ) → answer_by a m ≡ Values (n ∷ []) → (a ≡ Taken) × (n ≡ m)
-written_tests Taken m n e = (refl, omega (arith, ap bytes_in e))
-written_tests (Refused r) m n e = absurd (omega (arith, ap bytes_in e))
+pub written_tests : (a : Reading) (m n : ℕ) → answer_by a m ≡ Values (n ∷ []) → (a ≡ (Ok tt)) × (n ≡ m)
+written_tests (Ok tt) m n e = (refl, omega (arith, ap bytes_in e))
+written_tests (Err r) m n e = absurd (omega (arith, ap bytes_in e))
 
 pub refused_tests : (a : Reading) (m n p : ℕ) (bytes : List ℕ) → answer_by a m ≡ RefusedAt n p → bytes_by a bytes ≡ []
-refused_tests Taken m n p bytes e = absurd (omega (arith, ap bytes_in e))
-refused_tests (Refused r) m n p bytes e = refl
+refused_tests (Ok tt) m n p bytes e = absurd (omega (arith, ap bytes_in e))
+refused_tests (Err r) m n p bytes e = refl
 
 -- lists one behind the other, each of the same length
 module _ (f : ℕ → List ℕ) (size : ℕ) (long : (i : ℕ) → length (f i) ≡ size) where

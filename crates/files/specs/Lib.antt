@@ -1,4 +1,5 @@
 pub mod Words
+pub mod Fault
 pub mod Reading
 pub mod Answer
 pub mod Writing

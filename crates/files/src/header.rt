@@ -1,24 +1,23 @@
 // The head of a file: mark, version, count of records and length.
 ghost use Rattle.std.specs.Prelude.{◌≡◌, ◌≤◌, length};
 ghost use Rattle.member.specs.Format.{◌‥◌};
+ghost use Rattle.files.specs.Fault.{fault_of};
 ghost use Rattle.files.specs.Header.{marked, header_fault};
 
-use crate::limits::{Limits, inside};
-use crate::words::{wide, wider, word_at};
+use crate::fault::Fault;
+use crate::limits::Limits;
+use crate::words::word_at;
 
 // The letters TB and a third one, and one of the versions.
 fn is_marked(bytes: &[u8], letter: u8, versions: Limits) -> bool
     requires { 5 ≤ length bytes.now }
     ensures { result ≡ marked bytes.now letter (versions.low ‥ versions.high) }
 {
-    let first = bytes[0] == b'T';
-    let second = bytes[1] == b'B';
-    let third = bytes[2] == letter;
-    let version = inside(versions.low, versions.high, wider(word_at(bytes, 3)));
-    first & second & third & version
+    let version = versions.contains(u32::from(word_at(bytes, 3)));
+    (bytes[0] == b'T') & (bytes[1] == b'B') & (bytes[2] == letter) & version
 }
 
-// 1 shorter than the header, 2 mark or version, 3 count, 1 length; or 0.
+// Length where the file is shorter than the header, mark or version, count of records, length.
 pub fn header_fault(
     bytes: &[u8],
     letter: u8,
@@ -26,23 +25,23 @@ pub fn header_fault(
     header: usize,
     most: u32,
     size: usize,
-) -> u64
+) -> Result<(), Fault>
     requires { (5 ≤ header) × (header ≤ 16) × (size ≤ 64) }
-    ensures { result ≡ header_fault letter (versions.low ‥ versions.high) header most size bytes.now }
+    ensures { fault_of result ≡ header_fault letter (versions.low ‥ versions.high) header most size bytes.now }
 {
     if bytes.len() < header {
-        return 1;
+        return Err(Fault::Length);
     }
     if !is_marked(bytes, letter, versions) {
-        return 2;
+        return Err(Fault::Mark);
     }
-    let count = wide(bytes[header - 1]);
-    if !inside(1, most, wider(count)) {
-        return 3;
+    let count = bytes[header - 1];
+    let counts = Limits { low: 1, high: most };
+    if !counts.contains(u32::from(count)) {
+        return Err(Fault::Count);
     }
-    let records = count as usize;
-    if bytes.len() != header + size * records {
-        return 1;
+    if bytes.len() != header + size * usize::from(count) {
+        return Err(Fault::Length);
     }
-    0
+    Ok(())
 }

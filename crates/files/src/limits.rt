@@ -3,17 +3,17 @@ ghost use Rattle.std.specs.Prelude.{◌≡◌};
 ghost use Rattle.member.specs.Format.{◌‥◌};
 ghost use Rattle.files.specs.Reading.{is_in};
 
-#[derive(Clone, Copy)]
+#[derive(Clone, Copy, Debug, PartialEq, Eq)]
 pub struct Limits {
     pub low: u32,
     pub high: u32,
 }
 
-// A number lies between two, both included.
-pub fn inside(low: u32, high: u32, n: u32) -> bool
-    ensures { result ≡ is_in (low ‥ high) n }
-{
-    let above = low <= n;
-    let below = n <= high;
-    above & below
+impl Limits {
+    // Both included.
+    pub fn contains(self, n: u32) -> bool
+        ensures { result ≡ is_in (self.low ‥ self.high) n }
+    {
+        self.low <= n && n <= self.high
+    }
 }

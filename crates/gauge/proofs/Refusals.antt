@@ -1,5 +1,6 @@
 -- The tests of the readings, in their order, come to the plain words, and the plain words to the tests.
 -- Assumes nothing.
+use Rattle.std.specs.Prelude.{Ok, Err}
 use Prim.Native.Nat.{ℕ, ◌+◌, ◌<◌}
 use mathlib.Core.Path.{◌≡◌, refl, sym, ◌∙◌}
 use mathlib.Core.Bool.{Bool, true, false, true≢false}
@@ -8,10 +9,8 @@ use native.Mathlib.Omega.{arith}
 use Rattle.section.specs.Fraction.{at_most}
 use Rattle.section.proofs.Choices.{decided}
 use Rattle.section.proofs.Order.{at_most_lem, is_at_most, above, is_above}
-use Rattle.files.specs.Reading.{first_fault, or_else, test}
+use Rattle.files.specs.Reading.{Reading, first_fault, or_else, test}
 use Rattle.files.specs.Words.{each}
-use Rattle.files.specs.declared.Reading.{Reading}
-use Rattle.files.specs.declared.Reading.TheVariants.{Taken}
 use Rattle.files.proofs.Tests.{refutes}
 use Rattle.files.proofs.Faults.{refusal, reading_case, both_taken, test_holds, failing, all_hold, hold_all, first_failing, failing_named}
 use Rattle.gauge.specs.Value.{value_of, is_reading}
@@ -35,19 +34,19 @@ module _ (r : Readings) where
   unfolding reading_tests
   tests = refl
 
-  row_good : row ≡ Taken → AllReadings r
+  row_good : row ≡ (Ok tt) → AllReadings r
   row_good e i l = reading_is _ (all_hold 20 (omega arith) good 3 e i l)
 
-  good_row : AllReadings r → row ≡ Taken
+  good_row : AllReadings r → row ≡ (Ok tt)
   good_row h = hold_all 20 (omega arith) good 3 (λ i l. is_reading_lem _ (h i l))
 
   -- no test fails
-  pub taken_good : reading_tests r ≡ Taken → MayBeGauged r
+  pub taken_good : reading_tests r ≡ (Ok tt) → MayBeGauged r
   taken_good e =
       let both = both_taken row (test 20 order) (sym tests ∙ e) in
       record { readings = row_good both.0; order = at_most_lem _ _ (test_holds 20 order both.1) }
 
-  pub good_taken : MayBeGauged r → reading_tests r ≡ Taken
+  pub good_taken : MayBeGauged r → reading_tests r ≡ (Ok tt)
   good_taken g = tests ∙ rw (good_row g.readings, is_at_most g.order)
 
   -- a fault in plain words is the refusal

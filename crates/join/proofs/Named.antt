@@ -1,5 +1,6 @@
 -- A refusal of the join names its fault, and a fault its refusal: the tests in their order come to the plain words.
 -- Assumes nothing.
+use Rattle.std.specs.Prelude.{Ok, Err}
 use Prim.Native.Nat.{ℕ, ◌+◌, ◌-◌, ◌<◌}
 use mathlib.Core.Path.{◌≡◌, sym, ◌∙◌}
 use mathlib.Core.List.{List}
@@ -10,7 +11,6 @@ use lib.ListN.{length}
 use borrow.Author.Tests.{lt-leb}
 use Rattle.files.specs.Reading.{first_refusal}
 use Rattle.surveys.specs.SurveyFile.{count_of, record_at}
-use Rattle.files.specs.declared.Reading.TheVariants.{Taken, Refused}
 use Rattle.files.specs.declared.Refusal.{Refusal}
 use Rattle.files.proofs.Each.{length_each, getD_each}
 use Rattle.files.proofs.Faults.{refusal, reading_case, fault_at, taken_none, none_taken, refused_at}
@@ -25,14 +25,14 @@ module _ (first second : List ℕ) where
   fault = pair_fault first second
 
   -- the pairs may be joined exactly where the tests find nothing
-  pair_joinable : pair_answer first second ≡ Taken → JoinableBefore first second (count_of first)
+  pair_joinable : pair_answer first second ≡ (Ok tt) → JoinableBefore first second (count_of first)
   pair_joinable e i l =
       clear_joinable _ _ (sym (getD_each fault (count_of first) i 0 l) ∙ taken_none 1 (pair_faults first second (count_of first)) (sym (count_alike first second (pair_count first second e)) ∙ e) i)
 
   clear_before : (n : ℕ) → JoinableBefore first second n → (i : ℕ) → i < n → fault i ≡ 0
   clear_before n h i l = joinable_clear _ _ (h i l)
 
-  joinable_pair : count_of first ≡ count_of second → JoinableBefore first second (count_of first) → pair_answer first second ≡ Taken
+  joinable_pair : count_of first ≡ count_of second → JoinableBefore first second (count_of first) → pair_answer first second ≡ (Ok tt)
   joinable_pair same h = count_alike first second same ∙ none_taken 1 fault (count_of first) (clear_before (count_of first) h)
 
   -- the first pair at fault is the refusal
@@ -85,7 +85,7 @@ module _ (first second : List ℕ) where
         (λ (r, f). inr (r.number, r.place, first_refused r f))
         (either_file first)
       where
-        roomy : BothAllowed first second → count_of first ≡ count_of second → pair_answer first second ≡ Taken → Outcome
+        roomy : BothAllowed first second → count_of first ≡ count_of second → pair_answer first second ≡ (Ok tt) → Outcome
         roomy b same e =
             elim (dec_le (output_length first) room) [
               | yes l ↦ inl (good_passed (record { allowed = b; counts = same; joinable = pair_joinable e; room_enough = l }))
@@ -97,7 +97,7 @@ module _ (first second : List ℕ) where
         at_fault i f some (do_not_agree h) = inr (18, i + 1, not_agreed i f h)
         at_fault i f some (are_far a h) = inr (19, i + 1, too_far i f a h)
 
-        first_pair : BothAllowed first second → count_of first ≡ count_of second → (r : Refusal) → pair_answer first second ≡ Refused r → Outcome
+        first_pair : BothAllowed first second → count_of first ≡ count_of second → (r : Refusal) → pair_answer first second ≡ Err r → Outcome
         first_pair b same r e =
             let found = refused_at 1 (pair_faults first second (count_of first)) r (sym (count_alike first second same) ∙ e) in
             let i : ℕ = r.place - 1 in

@@ -1,5 +1,6 @@
 -- Two survey files: their tests in a row, from what was read, and what passes them all.
 -- Assumes nothing.
+use Rattle.std.specs.Prelude.{Ok, Err}
 use Prim.Native.Nat.{ℕ, ◌+◌, ◌*◌, ◌≤◌}
 use mathlib.Core.Path.{◌≡◌, sym, ap, ◌∙◌}
 use mathlib.Core.List.{List}
@@ -7,14 +8,12 @@ use native.Mathlib.Omega.{arith}
 use lib.Dec.{leb}
 use lib.ListN.{length}
 use borrow.Author.Tests.{leb-true, le-leb}
-use Rattle.files.specs.Reading.{first_fault, or_else, test, first_refusal}
+use Rattle.files.specs.Reading.{Reading, first_fault, or_else, test, first_refusal}
 use Rattle.surveys.specs.SurveyFile.{SURVEY_HEADER, RECORD, count_of, read_survey}
 use Rattle.files.specs.Writing.{written_answer, onto}
-use Rattle.files.specs.declared.Reading.{Reading}
-use Rattle.files.specs.declared.Reading.TheVariants.{Taken, Refused}
 use Rattle.files.specs.declared.Refusal.{Refusal}
 use Rattle.files.specs.declared.output.Written.TheVariants.{Bytes}
-use Rattle.files.specs.declared.output.Written.TheVariants.{Refused as NotWritten}
+use Rattle.files.specs.declared.output.Written.TheVariants.{Err as NotWritten}
 use Rattle.files.proofs.Faults.{refusal, both_taken, or_none, or_else_row, test_holds, counts_differ, counts_alike, counts_same}
 use Rattle.join.specs.Join.{pair_faults, pair_answer, output, join_tests, joined, joined_bytes, joined_out}
 use Rattle.join.proofs.Surveys.{length_survey}
@@ -30,7 +29,7 @@ module _ (first second : List ℕ) where
   count_alike = counts_alike 18 (omega arith) (count_of first) (count_of second) (pair_faults first second (count_of first))
 
   -- surveys that may be joined have the same count
-  pub pair_count : pair_answer first second ≡ Taken → count_of first ≡ count_of second
+  pub pair_count : pair_answer first second ≡ (Ok tt) → count_of first ≡ count_of second
   unfolding pair_answer
   pair_count = counts_same 18 (omega arith) (count_of first) (count_of second) (pair_faults first second (count_of first))
 
@@ -39,29 +38,29 @@ module _ (first second : List ℕ) where
 
   -- what holds where no test fails
   pub record Passed (room : ℕ) : Type 0 where
-    pub first_taken : (read_survey first).answer ≡ Taken
-    pub second_taken : (read_survey second).answer ≡ Taken
-    pub pair : pair_answer first second ≡ Taken
+    pub first_taken : (read_survey first).answer ≡ (Ok tt)
+    pub second_taken : (read_survey second).answer ≡ (Ok tt)
+    pub pair : pair_answer first second ≡ (Ok tt)
     pub room_enough : length (output first second) ≤ room
 
   module _ (room : ℕ) where
     -- the tests behind the files' own
     abbrev behind : Reading
-    behind = or_else (pair_answer first second) (or_else (test 14 (leb (length (output first second)) room)) Taken)
+    behind = or_else (pair_answer first second) (or_else (test 14 (leb (length (output first second)) room)) (Ok tt))
 
     -- the row of tests: these where both files are taken, else the refusal of one
-    pub tests_are : {pair : Reading} → or_else (read_survey first).answer (read_survey second).answer ≡ Taken →
+    pub tests_are : {pair : Reading} → or_else (read_survey first).answer (read_survey second).answer ≡ (Ok tt) →
         pair ≡ or_else (pair_answer first second) (test 14 (leb (length (output first second)) room)) →
         pair ≡ first_refusal (join_tests first second room)
     tests_are t p =
         p ∙ ap (or_else (pair_answer first second)) (sym (or_none _)) ∙ ap (λ (files : Reading). or_else files behind) (sym t) ∙ or_else_row (read_survey first).answer (read_survey second).answer behind
 
-    pub tests_refuse : (r : Refusal) → or_else (read_survey first).answer (read_survey second).answer ≡ Refused r →
+    pub tests_refuse : (r : Refusal) → or_else (read_survey first).answer (read_survey second).answer ≡ Err r →
         or_else (read_survey first).answer (read_survey second).answer ≡ first_refusal (join_tests first second room)
     tests_refuse r t =
         t ∙ ap (λ (files : Reading). or_else files behind) (sym t) ∙ or_else_row (read_survey first).answer (read_survey second).answer behind
 
-    pub all_passed : first_refusal (join_tests first second room) ≡ Taken → Passed room
+    pub all_passed : first_refusal (join_tests first second room) ≡ (Ok tt) → Passed room
     all_passed e =
         let (a, files) = both_taken _ _ e in
         let (b, rest) = both_taken _ _ files in
@@ -69,7 +68,7 @@ module _ (first second : List ℕ) where
         let (enough, none) = both_taken _ _ end in
         record { first_taken = a; second_taken = b; pair = pair; room_enough = leb-true _ _ (test_holds 14 _ enough) }
 
-    pub passed_all : Passed room → first_refusal (join_tests first second room) ≡ Taken
+    pub passed_all : Passed room → first_refusal (join_tests first second room) ≡ (Ok tt)
     passed_all p = rw (p.first_taken, p.second_taken, p.pair, le-leb _ _ p.room_enough)
 
     -- the answer and the output, where no test fails and where one does
@@ -77,7 +76,7 @@ module _ (first second : List ℕ) where
     unfolding joined
     written_given p e = rw (passed_all p, e)
 
-    pub refusal_given : (r : Refusal) → first_refusal (join_tests first second room) ≡ Refused r → written_answer (NotWritten r) ≡ joined first second room
+    pub refusal_given : (r : Refusal) → first_refusal (join_tests first second room) ≡ Err r → written_answer (NotWritten r) ≡ joined first second room
     unfolding joined
     refusal_given r e = rw e
 
@@ -85,6 +84,6 @@ module _ (first second : List ℕ) where
   unfolding joined_bytes
   out_written out p = rw (passed_all (length out) p)
 
-  pub out_kept : (out : List ℕ) (r : Refusal) → first_refusal (join_tests first second (length out)) ≡ Refused r → joined_out first second out ≡ out
+  pub out_kept : (out : List ℕ) (r : Refusal) → first_refusal (join_tests first second (length out)) ≡ Err r → joined_out first second out ≡ out
   unfolding joined_bytes
   out_kept out r e = rw e

@@ -4,11 +4,10 @@ use Rattle.section.specs.Choose.{all}
 use Rattle.member.specs.Fields.{KIND, CODE, FIELDS, field}
 use Rattle.member.specs.declared.record.Member.{Member}
 use Rattle.files.specs.Answer.{Answer}
-use Rattle.files.specs.Reading.{◌unless◌, first_of, first_fault, test, first_refusal}
+use Rattle.files.specs.Reading.{Reading, ◌unless◌, first_of, first_fault, test, first_refusal}
 use Rattle.surveys.specs.SurveyFile.{count_of, record_at, read_survey}
 use Rattle.files.specs.Words.{each}
 use Rattle.files.specs.Writing.{answer_by, bytes_by, onto}
-use Rattle.files.specs.declared.Reading.{Reading}
 use Rattle.join.specs.Rule.{rule_of, agrees, near, joined_number}
 use Rattle.join.specs.SurveyBytes.{survey_bytes}
 use Rattle.join.specs.declared.rule.Rule.{Rule}

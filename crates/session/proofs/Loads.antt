@@ -1,5 +1,7 @@
 -- A load by its answer: a file that is taken, or two vehicles that are coupled, are what the session then holds, and a refused one changes nothing.
 -- Assumes nothing.
+use Rattle.std.specs.Prelude.{Ok, Err}
+use Rattle.files.specs.Reading.{Reading}
 use Prim.Native.Nat.{ℕ}
 use mathlib.Core.Path.{◌≡◌, refl, sym, ap, ◌∙◌}
 use mathlib.Core.Bool.{Bool, true, false}
@@ -9,14 +11,12 @@ use Rattle.surveys.specs.SurveyFile.{read_survey, survey_of}
 use Rattle.vehicles.specs.VehicleFile.{VEHICLE_VERSIONS, read_vehicle, vehicle_of}
 use Rattle.member.specs.Format.{AllowedVehicle}
 use Rattle.member.specs.declared.record.Vehicle.{Vehicle}
-use Rattle.files.specs.declared.Reading.{Reading}
-use Rattle.files.specs.declared.Reading.TheVariants.{Taken, Refused}
 use Rattle.files.specs.declared.Refusal.{Refusal}
 use Rattle.files.proofs.Faults.{reading_case}
 use Rattle.surveys.proofs.Surveys as surveys
 use Rattle.vehicles.proofs.Vehicles as vehicles
 use Rattle.session.specs.Answers.{Answer, Values, WithMargin, WithDeflection, RefusedAt, refused_by}
-use Rattle.vehicles.specs.declared.VehicleRead.{VehicleRead}
+use Rattle.vehicles.specs.VehicleFile.{VehicleRead}
 use Rattle.couple.specs.Couple.{coupled_vehicle, couple as coupleFiles}
 use Rattle.couple.specs.Fault.{CoupleFault, MayBeCoupled}
 use Rattle.couple.proofs.Named.{fault_refused, coupled_read, taken_allowed}
@@ -55,52 +55,52 @@ taken_or_not (RefusedAt n p) = inr (λ e. mathlib.Core.Bool.false≢true (ap is_
 
 -- a vehicle that was read, of one file or of two, by the answer: stored where it is taken, else nothing changes
 module _ (s : Session) where
-  stored_taken : (a : Reading) (v : Vehicle) → (stored_vehicle s a v).answer ≡ Values [] → a ≡ Taken
-  stored_taken Taken v h = refl
-  stored_taken (Refused r) v h = never_both [] r.number r.place (sym h)
+  stored_taken : (a : Reading) (v : Vehicle) → (stored_vehicle s a v).answer ≡ Values [] → a ≡ (Ok tt)
+  stored_taken (Ok tt) v h = refl
+  stored_taken (Err r) v h = never_both [] r.number r.place (sym h)
 
   stored_left : (a : Reading) (v : Vehicle) → ¬ ((stored_vehicle s a v).answer ≡ Values []) → (stored_vehicle s a v).session.vehicle ≡ s.vehicle
-  stored_left Taken v h = absurd (h refl)
-  stored_left (Refused r) v h = refl
+  stored_left (Ok tt) v h = absurd (h refl)
+  stored_left (Err r) v h = refl
 
   stored_survey_lem : (a : Reading) (v : Vehicle) → (stored_vehicle s a v).session.survey ≡ s.survey
-  stored_survey_lem Taken v = refl
-  stored_survey_lem (Refused r) v = refl
+  stored_survey_lem (Ok tt) v = refl
+  stored_survey_lem (Err r) v = refl
 
   pub stored_kept : (a : Reading) (v : Vehicle) (n p : ℕ) → (stored_vehicle s a v).answer ≡ RefusedAt n p → (stored_vehicle s a v).session ≡ s
-  stored_kept Taken v n p h = never_both [] n p h
-  stored_kept (Refused r) v n p h = refl
+  stored_kept (Ok tt) v n p h = never_both [] n p h
+  stored_kept (Err r) v n p h = refl
 
-  pub stored_valid : (a : Reading) (v : Vehicle) → Valid s → (a ≡ Taken → AllowedVehicle v) → Valid (stored_vehicle s a v).session
-  stored_valid Taken v h allowed = valid_with s v h (allowed refl)
-  stored_valid (Refused r) v h allowed = h
+  pub stored_valid : (a : Reading) (v : Vehicle) → Valid s → (a ≡ (Ok tt) → AllowedVehicle v) → Valid (stored_vehicle s a v).session
+  stored_valid (Ok tt) v h allowed = valid_with s v h (allowed refl)
+  stored_valid (Err r) v h allowed = h
 
 -- a load that takes its file, by its answer
 module _ (s : Session) (bytes : List ℕ) where
-  pub survey_read : (load_survey s bytes).answer ≡ Values [] → (read_survey bytes).answer ≡ Taken
+  pub survey_read : (load_survey s bytes).answer ≡ Values [] → (read_survey bytes).answer ≡ (Ok tt)
   unfolding load_survey
   survey_read =
-      reading_case (read_survey bytes).answer (λ a. (stored_survey s a (read_survey bytes).survey).answer ≡ Values [] → a ≡ Taken) (λ e h. refl)
+      reading_case (read_survey bytes).answer (λ a. (stored_survey s a (read_survey bytes).survey).answer ≡ Values [] → a ≡ (Ok tt)) (λ e h. refl)
       (λ r e h. never_both [] r.number r.place (sym h))
 
-  pub vehicle_read : (load_vehicle s bytes).answer ≡ Values [] → (read_vehicle bytes).answer ≡ Taken
+  pub vehicle_read : (load_vehicle s bytes).answer ≡ Values [] → (read_vehicle bytes).answer ≡ (Ok tt)
   unfolding load_vehicle
   vehicle_read = stored_taken s (read_vehicle bytes).answer (read_vehicle bytes).vehicle
 
-  pub survey_load : (read_survey bytes).answer ≡ Taken → load_survey s bytes ≡ record { session = record { survey = survey_of bytes; vehicle = s.vehicle }; answer = Values [] }
+  pub survey_load : (read_survey bytes).answer ≡ (Ok tt) → load_survey s bytes ≡ record { session = record { survey = survey_of bytes; vehicle = s.vehicle }; answer = Values [] }
   unfolding load_survey
   survey_load e = rw (e, surveys.taken_survey bytes e)
 
-  pub vehicle_load : (read_vehicle bytes).answer ≡ Taken → load_vehicle s bytes ≡ record { session = record { survey = s.survey; vehicle = vehicle_of bytes }; answer = Values [] }
+  pub vehicle_load : (read_vehicle bytes).answer ≡ (Ok tt) → load_vehicle s bytes ≡ record { session = record { survey = s.survey; vehicle = vehicle_of bytes }; answer = Values [] }
   unfolding load_vehicle
   vehicle_load e = rw (e, vehicles.taken_vehicle VEHICLE_VERSIONS bytes e)
 
   -- and one that refuses it
-  pub survey_refused : (r : Refusal) → (read_survey bytes).answer ≡ Refused r → (load_survey s bytes).answer ≡ refused_by r
+  pub survey_refused : (r : Refusal) → (read_survey bytes).answer ≡ Err r → (load_survey s bytes).answer ≡ refused_by r
   unfolding load_survey
   survey_refused r e = rw e
 
-  pub vehicle_refused : (r : Refusal) → (read_vehicle bytes).answer ≡ Refused r → (load_vehicle s bytes).answer ≡ refused_by r
+  pub vehicle_refused : (r : Refusal) → (read_vehicle bytes).answer ≡ Err r → (load_vehicle s bytes).answer ≡ refused_by r
   unfolding load_vehicle
   vehicle_refused r e = rw e
 
@@ -129,7 +129,7 @@ module _ (s : Session) (first second : List ℕ) (gap : ℕ) where
   abbrev pair : VehicleRead
   pair = coupleFiles first second gap
 
-  pub couple_read : (couple s first second gap).answer ≡ Values [] → pair.answer ≡ Taken
+  pub couple_read : (couple s first second gap).answer ≡ Values [] → pair.answer ≡ (Ok tt)
   unfolding couple
   couple_read = stored_taken s pair.answer pair.vehicle
 

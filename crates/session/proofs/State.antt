@@ -1,5 +1,6 @@
 -- What the tests of the state say where they find no fault, and that every call leaves a valid session.
 -- Assumes nothing.
+use Rattle.std.specs.Prelude.{Ok, Err}
 use Prim.Native.Nat.{ℕ, ◌-◌, ◌*◌, ◌≤◌, ◌<◌}
 use mathlib.Core.Path.{◌≡◌, refl}
 use mathlib.Core.Bool.{not}
@@ -17,10 +18,9 @@ use Rattle.rating.specs.Surveyed.{AllowedSurvey, member_at}
 use Rattle.files.specs.Reading.{◌unless◌, is_in}
 use Rattle.surveys.specs.SurveyFile.{read_survey}
 use Rattle.vehicles.specs.VehicleFile.{VEHICLE_VERSIONS, read_vehicle, blank_vehicle}
-use Rattle.files.specs.declared.Reading.TheVariants.{Taken, Refused}
 use Rattle.files.specs.declared.Refusal.{Refusal}
-use Rattle.surveys.specs.declared.SurveyRead.{SurveyRead}
-use Rattle.vehicles.specs.declared.VehicleRead.{VehicleRead}
+use Rattle.surveys.specs.SurveyFile.{SurveyRead}
+use Rattle.vehicles.specs.VehicleFile.{VehicleRead}
 use Rattle.files.proofs.Faults.{reading_case}
 use Rattle.files.proofs.Tests.{not_none, none, passed, in_range, range_in, refutes}
 use Rattle.vehicles.proofs.Vehicles.{taken_vehicle_allowed}
@@ -64,13 +64,13 @@ judge_clear members axles entries e =
 pub valid_new : Valid new_session
 valid_new = record { survey = λ h. absurd (omega arith); vehicle = λ h. absurd (omega arith) }
 
-pub valid_survey : (s : Session) (bytes : List ℕ) → Valid s → (read_survey bytes).answer ≡ Taken → Valid (record { survey = (read_survey bytes).survey; vehicle = s.vehicle })
+pub valid_survey : (s : Session) (bytes : List ℕ) → Valid s → (read_survey bytes).answer ≡ (Ok tt) → Valid (record { survey = (read_survey bytes).survey; vehicle = s.vehicle })
 valid_survey s bytes h e = record { survey = λ l. taken_survey_allowed bytes e; vehicle = h.vehicle }
 
 pub valid_with : (s : Session) (v : Vehicle) → Valid s → AllowedVehicle v → Valid (record { survey = s.survey; vehicle = v })
 valid_with s v h a = record { survey = h.survey; vehicle = λ l. a }
 
-pub valid_vehicle : (s : Session) (bytes : List ℕ) → Valid s → (read_vehicle bytes).answer ≡ Taken → Valid (record { survey = s.survey; vehicle = (read_vehicle bytes).vehicle })
+pub valid_vehicle : (s : Session) (bytes : List ℕ) → Valid s → (read_vehicle bytes).answer ≡ (Ok tt) → Valid (record { survey = s.survey; vehicle = (read_vehicle bytes).vehicle })
 valid_vehicle s bytes h e = valid_with s _ h (taken_vehicle_allowed VEHICLE_VERSIONS bytes e)
 
 -- a survey has at most as many members as a file can
@@ -99,34 +99,34 @@ at_place s place valid e =
     }
 
 -- a load by its answer: what was read, of a vehicle from one file or of two, is stored, or nothing is
-pub survey_stored : (s : Session) (bytes : List ℕ) (r : SurveyRead) → r ≡ read_survey bytes → r.answer ≡ Taken →
+pub survey_stored : (s : Session) (bytes : List ℕ) (r : SurveyRead) → r ≡ read_survey bytes → r.answer ≡ (Ok tt) →
     loaded (record { session = record { survey = r.survey; vehicle = s.vehicle }; answer = r.answer }) ≡ load_survey s bytes
 unfolding load_survey
 survey_stored s bytes r e t = rw (e, rw e at t)
 
-pub survey_kept : (s : Session) (bytes : List ℕ) (r : SurveyRead) (f : Refusal) → r ≡ read_survey bytes → r.answer ≡ Refused f →
+pub survey_kept : (s : Session) (bytes : List ℕ) (r : SurveyRead) (f : Refusal) → r ≡ read_survey bytes → r.answer ≡ Err f →
     loaded (record { session = s; answer = r.answer }) ≡ load_survey s bytes
 unfolding load_survey
 survey_kept s bytes r f e t = rw (e, rw e at t)
 
-pub vehicle_stored : (s : Session) (bytes : List ℕ) (r : VehicleRead) → r ≡ read_vehicle bytes → r.answer ≡ Taken →
+pub vehicle_stored : (s : Session) (bytes : List ℕ) (r : VehicleRead) → r ≡ read_vehicle bytes → r.answer ≡ (Ok tt) →
     loaded (record { session = record { survey = s.survey; vehicle = r.vehicle }; answer = r.answer }) ≡ load_vehicle s bytes
 unfolding load_vehicle
 vehicle_stored s bytes r e t = rw (e, rw e at t)
 
-pub vehicle_kept : (s : Session) (bytes : List ℕ) (r : VehicleRead) (f : Refusal) → r ≡ read_vehicle bytes → r.answer ≡ Refused f →
+pub vehicle_kept : (s : Session) (bytes : List ℕ) (r : VehicleRead) (f : Refusal) → r ≡ read_vehicle bytes → r.answer ≡ Err f →
     loaded (record { session = s; answer = r.answer }) ≡ load_vehicle s bytes
 unfolding load_vehicle
 vehicle_kept s bytes r f e t = rw (e, rw e at t)
 
 -- both loads, by the answer of the first
 module _ (survey vehicle : List ℕ) where
-  pub first_refused : (o : AfterLoad) (f : Refusal) → loaded o ≡ load_survey new_session survey → o.answer ≡ Refused f →
+  pub first_refused : (o : AfterLoad) (f : Refusal) → loaded o ≡ load_survey new_session survey → o.answer ≡ Err f →
       loaded o ≡ load_files survey vehicle
   unfolding load_files
   first_refused o f e t = rw (← e, t)
 
-  pub second_loaded : (o p : AfterLoad) → loaded o ≡ load_survey new_session survey → o.answer ≡ Taken →
+  pub second_loaded : (o p : AfterLoad) → loaded o ≡ load_survey new_session survey → o.answer ≡ (Ok tt) →
       loaded p ≡ load_vehicle o.session vehicle →
       loaded p ≡ load_files survey vehicle
   unfolding load_files
@@ -159,11 +159,11 @@ judge_ready members axles entries hm ha he =
 
 -- a vehicle loaded alone and judged, by how its file was read
 module _ (s : Session) (bytes : List ℕ) where
-  pub alone_refused : (f : Refusal) → (read_vehicle bytes).answer ≡ Refused f → alone s bytes ≡ refused_by f
+  pub alone_refused : (f : Refusal) → (read_vehicle bytes).answer ≡ Err f → alone s bytes ≡ refused_by f
   unfolding alone then_judge load_vehicle
   alone_refused f e = rw (alone, e)
 
-  pub alone_taken : AllowedSurvey s.survey → (read_vehicle bytes).answer ≡ Taken → alone s bytes ≡ judgement_answer (judgement_of (members s) (read_vehicle bytes).vehicle)
+  pub alone_taken : AllowedSurvey s.survey → (read_vehicle bytes).answer ≡ (Ok tt) → alone s bytes ≡ judgement_answer (judgement_of (members s) (read_vehicle bytes).vehicle)
   unfolding alone then_judge load_vehicle judge
   alone_taken a e =
       rw (alone, e, judge_ready s.survey.count (read_vehicle bytes).vehicle.axles (2 * MOST_MEMBERS) (omega (arith, a.count)) (omega (arith, (taken_vehicle_allowed VEHICLE_VERSIONS bytes e).axles)) (omega (arith, a.count)))
@@ -178,10 +178,10 @@ module _ (s : Session) (bytes : List ℕ) where
 
 -- both files, by how the survey was read
 module _ (survey vehicle : List ℕ) where
-  pub files_refused : (f : Refusal) → (read_survey survey).answer ≡ Refused f → (judge_files survey vehicle).answer ≡ refused_by f
+  pub files_refused : (f : Refusal) → (read_survey survey).answer ≡ Err f → (judge_files survey vehicle).answer ≡ refused_by f
   unfolding judge_files then_judge load_files load_survey
   files_refused f e = rw e
 
-  pub files_alone : (read_survey survey).answer ≡ Taken → (judge_files survey vehicle).answer ≡ alone (record { survey = (read_survey survey).survey; vehicle = blank_vehicle }) vehicle
+  pub files_alone : (read_survey survey).answer ≡ (Ok tt) → (judge_files survey vehicle).answer ≡ alone (record { survey = (read_survey survey).survey; vehicle = blank_vehicle }) vehicle
   unfolding judge_files alone load_files load_survey
   files_alone e = rw e

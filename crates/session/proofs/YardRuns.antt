@@ -1,5 +1,6 @@
 -- The yard's vehicles one after the other: what the code has kept of the first ones, and one more by its answer, is kept of that one too.
 -- Assumes nothing.
+use Rattle.std.specs.Prelude.{Ok, Err}
 use Prim.Native.Nat.{ℕ, ◌+◌, ◌-◌, ◌≤◌, ◌<◌, min}
 use mathlib.Core.Path.{◌≡◌, refl, sym, ap, subst, ◌∙◌}
 use mathlib.Core.List.{List, [], ◌∷◌, ◌++◌, map, map-append}
@@ -8,7 +9,6 @@ use native.Mathlib.Omega.{arith}
 use lib.ListN.{length, take, drop, set, length-set, length-drop}
 use lib.Seq.{take_all, take-suc-set, drop-drop}
 use Rattle.vehicles.specs.YardFile.{MOST_VEHICLES, own_length, files_in, left_after}
-use Rattle.files.specs.declared.Reading.TheVariants.{Taken, Refused}
 use Rattle.files.specs.declared.Refusal.{Refusal}
 use Rattle.vehicles.proofs.Yards.{take_most, drop_most, one_more_file, left_after_one}
 use Rattle.rating.specs.declared.judging.Judgement.{Judgement}
@@ -20,7 +20,7 @@ use Rattle.session.specs.Yard.{Entry, entries, alone, passing, first_refusal}
 use Rattle.session.specs.YardRun.{answers_to, with_answer, Ran}
 use Rattle.session.specs.declared.Judged.{Judged}
 use Rattle.session.specs.declared.Judged.TheVariants.{Figures}
-use Rattle.session.specs.declared.Judged.TheVariants.{Refused as NotJudged}
+use Rattle.session.specs.declared.Judged.TheVariants.{Err as NotJudged}
 use Rattle.session.specs.declared.Session.{Session}
 use Rattle.session.specs.declared.yard.Run.{Run}
 use Rattle.session.proofs.Loads.{never_both}
@@ -82,7 +82,7 @@ verdict_small Pass = omega arith
 verdict_small Refuse = omega arith
 
 -- no vehicle yet
-pub ran_none : (s : Session) (yard : List ℕ) (r : Run) → 1 ≤ length yard → r.answer ≡ Taken → r.at ≡ 1 → r.passes ≡ 0 →
+pub ran_none : (s : Session) (yard : List ℕ) (r : Run) → 1 ≤ length yard → r.answer ≡ (Ok tt) → r.at ≡ 1 → r.passes ≡ 0 →
     length r.answers ≡ MOST_VEHICLES → Ran s yard 0 r
 ran_none s yard r h a at p sized =
     record {
@@ -92,7 +92,7 @@ ran_none s yard r h a at p sized =
     }
 
 -- a refusal stays
-pub ran_refused : (s : Session) (yard : List ℕ) (i : ℕ) (r : Run) (f : Refusal) → Ran s yard i r → r.answer ≡ Refused f → Ran s yard (i + 1) r
+pub ran_refused : (s : Session) (yard : List ℕ) (i : ℕ) (r : Run) (f : Refusal) → Ran s yard i r → r.answer ≡ Err f → Ran s yard (i + 1) r
 ran_refused s yard i r f h t =
     let before : first_refusal (answers_to s yard i) (Values []) ≡ refused_by f = sym h.answer ∙ ap load_answer t in
     record {
@@ -102,7 +102,7 @@ ran_refused s yard i r f h t =
     }
 
 -- one vehicle more, whose file is cut off what is left, by its answer
-module _ (s : Session) (yard : List ℕ) (i : ℕ) (r : Run) (h : Ran s yard i r) (t : r.answer ≡ Taken) where
+module _ (s : Session) (yard : List ℕ) (i : ℕ) (r : Run) (h : Ran s yard i r) (t : r.answer ≡ (Ok tt)) where
   abbrev size : ℕ
   size = min (own_length (drop r.at yard)) (length (drop r.at yard))
 

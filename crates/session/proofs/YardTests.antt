@@ -1,5 +1,6 @@
 -- The tests of a yard in their order: those before the vehicles, the vehicles, those behind them. What the code finds there is the answer.
 -- Assumes nothing.
+use Rattle.std.specs.Prelude.{Ok, Err}
 use Prim.Native.Nat.{ℕ, ◌-◌, ◌≤◌, ◌<◌}
 use mathlib.Core.Path.{◌≡◌, refl, sym, ap, subst, ◌∙◌}
 use mathlib.Core.Bool.{Bool, true, false, not}
@@ -12,7 +13,6 @@ use Rattle.section.specs.Choose.{choose}
 use Rattle.member.specs.Format.{In, ◌‥◌}
 use Rattle.files.specs.Reading.{◌unless◌, first_of, is_in}
 use Rattle.vehicles.specs.YardFile.{MOST_VEHICLES, vehicles_of, left_over}
-use Rattle.files.specs.declared.Reading.TheVariants.{Taken}
 use Rattle.files.specs.declared.Refusal.{Refusal}
 use Rattle.files.proofs.Tests.{not_none, none, passed, in_range}
 use Rattle.rating.specs.declared.judging.Judgement.{Judgement}
@@ -85,7 +85,7 @@ module _ (s : Session) (yard : List ℕ) (room : ℕ) where
       (eqb-true (length (left_over yard)) 0 (passed 1 _ (omega arith) first.0), leb-true (vehicles_of yard) room (passed 14 _ (omega arith) second.0))
 
   -- what the code has left is what is left over
-  pub end_is : (r : Run) → Ran s yard (vehicles_of yard) r → r.answer ≡ Taken →
+  pub end_is : (r : Run) → Ran s yard (vehicles_of yard) r → r.answer ≡ (Ok tt) →
       first_of (end_tests (length yard - r.at) (vehicles_of yard) room) ≡ first_of ends
   end_is r h t =
       ap (λ (n : ℕ). first_of (end_tests n (vehicles_of yard) room)) (sym (length-drop r.at yard) ∙ ap length (h.going t).rest)
@@ -104,7 +104,7 @@ module _ (s : Session) (yard : List ℕ) (room : ℕ) where
         entries = rw e;
       }
 
-  pub answered_taken : Valid s → (r : Run) → Ran s yard (vehicles_of yard) r → r.answer ≡ Taken → front ≡ 0 → first_of ends ≡ 0 →
+  pub answered_taken : Valid s → (r : Run) → Ran s yard (vehicles_of yard) r → r.answer ≡ (Ok tt) → front ≡ 0 → first_of ends ≡ 0 →
       Answered s yard room (record { after = record { session = s; answer = Passes r.passes }; count = vehicles_of yard; answers = r.answers })
   answered_taken valid r h t clear e =
       let is = not_refused clear (sym h.answer ∙ ap load_answer t) e in

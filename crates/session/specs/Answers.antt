@@ -1,8 +1,7 @@
 -- The answers' numbers: a number and values for every case of each answer, those of the documents where they have them.
-use Rattle.std.specs.Prelude.{ℕ, List, [], ◌∷◌}
+use Rattle.files.specs.Reading.{Reading}
+use Rattle.std.specs.Prelude.{ℕ, List, [], ◌∷◌, Ok, Err}
 pub use Rattle.files.specs.Answer.{Answer, Values, WithMargin, WithDeflection, RefusedAt, refused_by}
-use Rattle.files.specs.declared.Reading.{Reading}
-use Rattle.files.specs.declared.Reading.TheVariants.{Taken, Refused}
 use Rattle.rating.specs.declared.judging.Judgement.{Judgement}
 use Rattle.rating.specs.declared.judging.Rating.{Rating}
 use Rattle.rating.specs.declared.judging.Verdict.{Verdict}
@@ -11,12 +10,12 @@ use Rattle.between.specs.declared.Between.{Between}
 use Rattle.between.specs.declared.Between.TheVariants.{All, None, Undecided}
 use Rattle.between.specs.declared.BetweenJudged.{BetweenJudged}
 use Rattle.between.specs.declared.BetweenJudged.TheVariants.{Verdict as Given}
-use Rattle.between.specs.declared.BetweenJudged.TheVariants.{Refused as NotBetween}
+use Rattle.between.specs.declared.BetweenJudged.TheVariants.{Err as NotBetween}
 use Rattle.gauge.specs.declared.Deflection.{Deflection}
 use Rattle.gauge.specs.declared.Deflection.TheVariants.{Within, Over}
 use Rattle.gauge.specs.declared.Gauged.{Gauged}
 use Rattle.gauge.specs.declared.Gauged.TheVariants.{Elastic}
-use Rattle.gauge.specs.declared.Gauged.TheVariants.{Refused as NotGauged}
+use Rattle.gauge.specs.declared.Gauged.TheVariants.{Err as NotGauged}
 use Rattle.session.specs.declared.AfterJudge.{AfterJudge}
 use Rattle.session.specs.declared.AfterLoad.{AfterLoad}
 use Rattle.session.specs.declared.AfterRate.{AfterRate}
@@ -25,14 +24,14 @@ use Rattle.session.specs.declared.readings.AfterBetween.{AfterBetween}
 use Rattle.session.specs.declared.yard.AfterYard.{AfterYard}
 use Rattle.session.specs.declared.Judged.{Judged}
 use Rattle.session.specs.declared.Judged.TheVariants.{Figures}
-use Rattle.session.specs.declared.Judged.TheVariants.{Refused as NotJudged}
+use Rattle.session.specs.declared.Judged.TheVariants.{Err as NotJudged}
 use Rattle.session.specs.declared.Rated.{Rated}
 use Rattle.session.specs.declared.Rated.TheVariants.{Loads}
-use Rattle.session.specs.declared.Rated.TheVariants.{Refused as NotRated}
+use Rattle.session.specs.declared.Rated.TheVariants.{Err as NotRated}
 use Rattle.session.specs.declared.Session.{Session}
 use Rattle.session.specs.declared.yard.YardJudged.{YardJudged}
 use Rattle.session.specs.declared.yard.YardJudged.TheVariants.{Passes}
-use Rattle.session.specs.declared.yard.YardJudged.TheVariants.{Refused as NotYard}
+use Rattle.session.specs.declared.yard.YardJudged.TheVariants.{Err as NotYard}
 
 -- the number of an answer, 0 where the call succeeds, and its place
 abbrev pub number_of : Answer → ℕ
@@ -76,8 +75,8 @@ abbrev pub judgement_answer : Judgement → Answer
 judgement_answer j = WithMargin (judgement_values j) j.margin
 
 abbrev pub load_answer : Reading → Answer
-load_answer Taken = Values []
-load_answer (Refused r) = refused_by r
+load_answer (Ok tt) = Values []
+load_answer (Err r) = refused_by r
 
 abbrev pub rate_answer : Rated → Answer
 rate_answer (Loads r) = rating_answer r

@@ -1,18 +1,16 @@
 -- The four calls. Document 01, 'Calls': "Load a survey, load a vehicle, rate one place, judge." `Yard`, `Readings`, `Gauging`
 -- and `Coupling` have four more.
-use Rattle.std.specs.Prelude.{ℕ, ◌-◌, ◌*◌, ◌<◌, not, List, [], ◌∷◌, eqb, leb, length, replicate}
+use Rattle.std.specs.Prelude.{ℕ, ◌-◌, ◌*◌, ◌<◌, not, List, [], ◌∷◌, eqb, leb, length, replicate, Ok, Err}
 use Rattle.section.specs.Choose.{choose}
 use Rattle.member.specs.Fields.{MOST_MEMBERS}
 use Rattle.member.specs.Format.{AllowedVehicle, ◌‥◌}
 use Rattle.rating.specs.Judgement.{rating_of, judgement_of, written}
 use Rattle.rating.specs.Surveyed.{AllowedSurvey, members_of, member_at}
 use Rattle.member.specs.declared.record.Member.{Member}
-use Rattle.files.specs.Reading.{◌unless◌, first_of, is_in}
+use Rattle.files.specs.Reading.{Reading, ◌unless◌, first_of, is_in}
 use Rattle.member.specs.Blank.{blank_survey}
 use Rattle.surveys.specs.SurveyFile.{read_survey}
 use Rattle.vehicles.specs.VehicleFile.{read_vehicle, blank_vehicle}
-use Rattle.files.specs.declared.Reading.{Reading}
-use Rattle.files.specs.declared.Reading.TheVariants.{Taken, Refused}
 use Rattle.member.specs.declared.record.Survey.{Survey}
 use Rattle.member.specs.declared.record.Vehicle.{Vehicle}
 use Rattle.session.specs.Answers.{Answer, Values, WithMargin, WithDeflection, RefusedAt, Outcome, refused_by, rating_answer, judgement_answer}
@@ -33,12 +31,12 @@ members s = members_of s.survey
 
 -- "A load that succeeds replaces its own file only."
 abbrev pub stored_survey : Session → Reading → Survey → Outcome
-stored_survey s Taken survey = record { session = record { survey = survey; vehicle = s.vehicle }; answer = Values [] }
-stored_survey s (Refused r) survey = record { session = s; answer = refused_by r }
+stored_survey s (Ok tt) survey = record { session = record { survey = survey; vehicle = s.vehicle }; answer = Values [] }
+stored_survey s (Err r) survey = record { session = s; answer = refused_by r }
 
 abbrev pub stored_vehicle : Session → Reading → Vehicle → Outcome
-stored_vehicle s Taken vehicle = record { session = record { survey = s.survey; vehicle = vehicle }; answer = Values [] }
-stored_vehicle s (Refused r) vehicle = record { session = s; answer = refused_by r }
+stored_vehicle s (Ok tt) vehicle = record { session = record { survey = s.survey; vehicle = vehicle }; answer = Values [] }
+stored_vehicle s (Err r) vehicle = record { session = s; answer = refused_by r }
 
 unfoldable pub load_survey : Session → (bytes : List ℕ) → Outcome
 load_survey s bytes = stored_survey s (read_survey bytes).answer (read_survey bytes).survey

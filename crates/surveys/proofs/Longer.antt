@@ -1,5 +1,6 @@
 -- What is claimed of longer trestles.
 -- Assumes nothing.
+use Rattle.std.specs.Prelude.{Ok, Err}
 use Prim.Native.Nat.{ℕ, ◌≤◌, ◌<◌}
 use mathlib.Core.Path.{◌≡◌}
 use mathlib.Core.List.{List}
@@ -11,7 +12,6 @@ use Rattle.member.specs.Fields.{MOST_MEMBERS}
 use Rattle.member.specs.Format.{In, ◌‥◌}
 use Rattle.member.proofs.Counts.{count_byte_holds}
 use Rattle.files.specs.Header.{header_fault}
-use Rattle.files.specs.declared.Reading.TheVariants.{Refused}
 use Rattle.files.specs.Refused.{Marked, HeaderFault, too_short, wrong_mark, wrong_count, wrong_length}
 use Rattle.files.proofs.Faults.{head_first}
 use Rattle.files.proofs.Headers.{header_is}
@@ -40,12 +40,12 @@ module _ (bytes : List ℕ) where
   no_members byte outside =
       elim (dec_lt 0 (count_of bytes)) [ yes some ↦ absurd (outside ((count_byte_holds (count_of bytes)).1 (some, byte))) | no none ↦ omega arith ]
 
-  still_refused : SURVEY_HEADER ≤ length bytes → Marked bytes 82 SURVEY_VERSIONS → count_of bytes ≡ 0 → (read_survey bytes).answer ≡ Refused (record { number = 3; place = 0 })
+  still_refused : SURVEY_HEADER ≤ length bytes → Marked bytes 82 SURVEY_VERSIONS → count_of bytes ≡ 0 → (read_survey bytes).answer ≡ Err (record { number = 3; place = 0 })
   unfolding read_survey
   still_refused long marked none =
       headed_first bytes 3 (header_is 82 SURVEY_VERSIONS SURVEY_HEADER MOST_MEMBERS RECORD bytes (omega arith) (wrong_count long marked (λ within. omega (arith, within)))) (omega arith)
 
-  once_refused : SURVEY_HEADER ≤ length bytes → Marked bytes 82 SURVEY_VERSIONS → OLD_LIMIT < count_of bytes → old_answer bytes ≡ Refused (record { number = 3; place = 0 })
+  once_refused : SURVEY_HEADER ≤ length bytes → Marked bytes 82 SURVEY_VERSIONS → OLD_LIMIT < count_of bytes → old_answer bytes ≡ Err (record { number = 3; place = 0 })
   once_refused long marked many =
       rw (head_first 0 3 (old_header bytes) (record_faults bytes (count_of bytes)) (header_is 82 SURVEY_VERSIONS SURVEY_HEADER OLD_LIMIT RECORD bytes (omega arith) (wrong_count long marked (λ within. omega (arith, within)))) (omega arith))
 

@@ -1,6 +1,7 @@
 -- The order of a survey's records: the test decides it, and it is enough to test each record against its predecessor, since of records m, n
 -- and k m stands before k only where m stands before n or n before k.
 -- Assumes nothing.
+use Rattle.std.specs.Prelude.{Ok, Err}
 use Prim.Native.Nat.{ℕ, zero, suc, ◌+◌, ◌-◌, ◌*◌, ◌≤◌, ◌<◌}
 use mathlib.Core.Path.{◌≡◌, refl, sym, ◌∙◌}
 use mathlib.Core.Bool.{Bool, true, false, not, false≢true}
@@ -18,7 +19,6 @@ use Rattle.files.specs.Reading.{◌unless◌, first_fault}
 use Rattle.files.specs.Words.{word_at, each}
 use Rattle.files.specs.Header.{version_of}
 use Rattle.surveys.specs.SurveyFile.{SURVEY_HEADER, RECORD, SEQUENCE_FROM, record_at, sequence_fault, sequence_answer}
-use Rattle.files.specs.declared.Reading.TheVariants.{Taken, Refused}
 use Rattle.files.specs.declared.Refusal.{Refusal}
 use Rattle.files.proofs.Each.{getD_each}
 use Rattle.files.proofs.Faults.{refusal, refused_not, fault_at, taken_none, none_taken, FaultAt, refused_at}
@@ -125,7 +125,7 @@ module _ (at : ℕ → Member) (n : ℕ) where
 
 -- the answer for the first n records of a file
 module _ (bytes : List ℕ) (n : ℕ) where
-  pub free_order : version_of bytes < SEQUENCE_FROM → sequence_answer bytes n ≡ Taken
+  pub free_order : version_of bytes < SEQUENCE_FROM → sequence_answer bytes n ≡ (Ok tt)
   unfolding sequence_answer
   free_order v = rw (lt-leb SEQUENCE_FROM (version_of bytes) v)
 
@@ -134,13 +134,13 @@ module _ (bytes : List ℕ) (n : ℕ) where
   ordered_version v = rw (le-leb SEQUENCE_FROM (version_of bytes) v)
 
   -- it takes them exactly where they stand in order, or the version keeps free order
-  pub sequence_read : sequence_answer bytes n ≡ Taken → SEQUENCE_FROM ≤ version_of bytes → InSequence (record_at bytes) n
+  pub sequence_read : sequence_answer bytes n ≡ (Ok tt) → SEQUENCE_FROM ≤ version_of bytes → InSequence (record_at bytes) n
   sequence_read e v =
       let none = taken_none 1 (each (sequence_fault bytes) n) (sym (ordered_version v) ∙ e) in
       neighbours (record_at bytes) n
       (λ i l b. omega (arith, fault_given bytes i b, getD_each (sequence_fault bytes) n i 0 l, none i))
 
-  pub sequence_given : (SEQUENCE_FROM ≤ version_of bytes → InSequence (record_at bytes) n) → sequence_answer bytes n ≡ Taken
+  pub sequence_given : (SEQUENCE_FROM ≤ version_of bytes → InSequence (record_at bytes) n) → sequence_answer bytes n ≡ (Ok tt)
   sequence_given h =
       elim (dec_lt (version_of bytes) SEQUENCE_FROM) [
         | yes v ↦ free_order v
@@ -151,7 +151,7 @@ module _ (bytes : List ℕ) (n : ℕ) where
       ]
 
   -- a refusal is the first fault
-  pub sequence_first : (r : Refusal) → sequence_answer bytes n ≡ Refused r → (SEQUENCE_FROM ≤ version_of bytes) × FaultAt 1 (each (sequence_fault bytes) n) r
+  pub sequence_first : (r : Refusal) → sequence_answer bytes n ≡ Err r → (SEQUENCE_FROM ≤ version_of bytes) × FaultAt 1 (each (sequence_fault bytes) n) r
   sequence_first r e =
       elim (dec_lt (version_of bytes) SEQUENCE_FROM) [
         | yes v ↦ absurd (refused_not r.number r.place (sym e ∙ free_order v))

@@ -1,5 +1,6 @@
 -- Reading a survey, beside what the document allows: a file is taken exactly when it is allowed, the survey then holds the
 -- file's numbers, and a refusal has its number and its place.
+use Rattle.std.specs.Prelude.{Ok, Err}
 use Prim.Native.Nat.{ℕ, zero, suc, ◌+◌, ◌-◌, ◌*◌, ◌≤◌, ◌<◌}
 use mathlib.Core.Path.{◌≡◌, refl, ap, sym, ◌∙◌}
 use mathlib.Core.List.{List, ◌∷◌}
@@ -12,15 +13,13 @@ use Rattle.member.specs.Blank.{blank_member, blank_survey}
 use Rattle.member.specs.Fields.{MOST_MEMBERS, FIELDS, field}
 use Rattle.member.specs.Format.{◌‥◌, In, AllowedMember}
 use Rattle.files.specs.Words.{word_at}
-use Rattle.files.specs.Reading.{first_fault, or_else}
+use Rattle.files.specs.Reading.{Reading, first_fault, or_else}
 use Rattle.surveys.specs.SurveyFile.{SURVEY_HEADER, RECORD, SURVEY_VERSIONS, count_of, record_at, survey_header, member_fault, record_faults, sequence_fault, sequence_answer, survey_answer, survey_of, survey_by, read_survey}
 use Rattle.surveys.specs.Allowed.{AllowedSurveyFile}
 use Rattle.files.specs.Refused.{Headed}
 use Rattle.surveys.specs.Refused.{FirstRecord, SurveyRefusal}
 use Rattle.files.specs.declared.Refusal.{Refusal}
-use Rattle.files.specs.declared.Reading.{Reading}
-use Rattle.files.specs.declared.Reading.TheVariants.{Taken, Refused}
-use Rattle.surveys.specs.declared.SurveyRead.{SurveyRead}
+use Rattle.surveys.specs.SurveyFile.{SurveyRead}
 use Rattle.files.proofs.Each.{length_each, getD_each, getD_padded}
 use Rattle.files.proofs.Faults.{refusal, reading_case, both_taken, one_refused, head_first, head_clear, fault_at, taken_none, none_taken, FaultAt, refused_at}
 use Rattle.files.proofs.Headers.{headed, header_clear, header_named, header_is, header_number}
@@ -59,19 +58,19 @@ module _ (bytes : List ℕ) where
   survey_clear = header_clear 82 SURVEY_VERSIONS SURVEY_HEADER MOST_MEMBERS RECORD bytes (omega arith)
 
   -- it takes them exactly where the header and every record are good
-  records_good : faults_answer ≡ Taken → HeadedSurvey × AllowedRecords
+  records_good : faults_answer ≡ (Ok tt) → HeadedSurvey × AllowedRecords
   records_good e =
       let none = taken_none 0 (survey_header bytes ∷ record_faults bytes (count_of bytes)) e in (
         headed_survey (none 0),
         λ i l. clear_allowed (record_at bytes i) (sym (getD_each (λ k. member_fault (record_at bytes k)) (count_of bytes) i 0 l) ∙ none (suc i)),
       )
 
-  good_records : HeadedSurvey → AllowedRecords → faults_answer ≡ Taken
+  good_records : HeadedSurvey → AllowedRecords → faults_answer ≡ (Ok tt)
   good_records h members =
       head_clear 0 _ (record_faults bytes (count_of bytes)) (survey_clear h) ∙ none_taken 1 (λ k. member_fault (record_at bytes k)) (count_of bytes) (λ i l. allowed_clear (record_at bytes i) (members i l))
 
   -- a file is taken exactly when it is allowed
-  pub taken_allowed : (read_survey bytes).answer ≡ Taken → AllowedSurveyFile bytes
+  pub taken_allowed : (read_survey bytes).answer ≡ (Ok tt) → AllowedSurveyFile bytes
   unfolding read_survey survey_answer
   taken_allowed e =
       let (records, sequence) = both_taken faults_answer _ e in
@@ -85,7 +84,7 @@ module _ (bytes : List ℕ) where
         order = λ v. sequence_read bytes (count_of bytes) sequence (omega arith);
       }
 
-  pub allowed_taken : AllowedSurveyFile bytes → (read_survey bytes).answer ≡ Taken
+  pub allowed_taken : AllowedSurveyFile bytes → (read_survey bytes).answer ≡ (Ok tt)
   unfolding read_survey survey_answer
   allowed_taken a =
       let long : SURVEY_HEADER ≤ length bytes = omega (arith, a.size) in
@@ -93,30 +92,30 @@ module _ (bytes : List ℕ) where
       rw (good_records h a.members) (sequence_given bytes (count_of bytes) (λ v. a.order (omega arith)))
 
   -- a taken file's survey is the file's
-  pub taken_survey : (read_survey bytes).answer ≡ Taken → (read_survey bytes).survey ≡ survey_of bytes
+  pub taken_survey : (read_survey bytes).answer ≡ (Ok tt) → (read_survey bytes).survey ≡ survey_of bytes
   unfolding read_survey
   taken_survey e = rw e
 
   -- record by record
-  pub taken_record : (read_survey bytes).answer ≡ Taken → (i : ℕ) (d : Member) → i < count_of bytes → get_or (read_survey bytes).survey.members i d ≡ record_at bytes i
+  pub taken_record : (read_survey bytes).answer ≡ (Ok tt) → (i : ℕ) (d : Member) → i < count_of bytes → get_or (read_survey bytes).survey.members i d ≡ record_at bytes i
   taken_record e i d l =
       rw (taken_survey e) (getD_padded (record_at bytes) (count_of bytes) i (replicate (MOST_MEMBERS - count_of bytes) blank_member) d l)
 
   -- and number by number
-  pub taken_field : (read_survey bytes).answer ≡ Taken → (i f : ℕ) (d : Member) → i < count_of bytes → f < FIELDS → field (get_or (read_survey bytes).survey.members i d) f ≡ word_at bytes (SURVEY_HEADER + RECORD * i + 2 * f)
+  pub taken_field : (read_survey bytes).answer ≡ (Ok tt) → (i f : ℕ) (d : Member) → i < count_of bytes → f < FIELDS → field (get_or (read_survey bytes).survey.members i d) f ≡ word_at bytes (SURVEY_HEADER + RECORD * i + 2 * f)
   taken_field e i f d l h = rw (taken_record e i d l) (record_field bytes i f h)
 
   -- its count is in range and its members are allowed
-  pub taken_count : (read_survey bytes).answer ≡ Taken → In (1 ‥ MOST_MEMBERS) (read_survey bytes).survey.count
+  pub taken_count : (read_survey bytes).answer ≡ (Ok tt) → In (1 ‥ MOST_MEMBERS) (read_survey bytes).survey.count
   taken_count e = rw (taken_survey e) (taken_allowed e).count
 
-  pub taken_members : (read_survey bytes).answer ≡ Taken → (i : ℕ) (d : Member) → i < (read_survey bytes).survey.count → AllowedMember (get_or (read_survey bytes).survey.members i d)
+  pub taken_members : (read_survey bytes).answer ≡ (Ok tt) → (i : ℕ) (d : Member) → i < (read_survey bytes).survey.count → AllowedMember (get_or (read_survey bytes).survey.members i d)
   taken_members e i d l =
       let within : i < count_of bytes = rw (taken_survey e) at l in
       rw (taken_record e i d within) ((taken_allowed e).members i within)
 
   -- a refused file gives a blank survey
-  pub refused_blank : (r : Refusal) → (read_survey bytes).answer ≡ Refused r → (read_survey bytes).survey ≡ blank_survey
+  pub refused_blank : (r : Refusal) → (read_survey bytes).answer ≡ Err r → (read_survey bytes).survey ≡ blank_survey
   unfolding read_survey
   refused_blank r e = rw e
 
@@ -160,7 +159,7 @@ module _ (bytes : List ℕ) where
       }
 
   -- and one of their order
-  sequence_refusal : (r : Refusal) → faults_answer ≡ Taken → sequence_answer bytes (count_of bytes) ≡ Refused r → SurveyRefusal bytes r
+  sequence_refusal : (r : Refusal) → faults_answer ≡ (Ok tt) → sequence_answer bytes (count_of bytes) ≡ Err r → SurveyRefusal bytes r
   sequence_refusal r e f =
       let (version, h) = sequence_first bytes (count_of bytes) r f in
       let i = r.place - 1 in
@@ -186,18 +185,18 @@ module _ (bytes : List ℕ) where
       }
 
   -- what a refusal says of the file
-  pub refused_named : (r : Refusal) → (read_survey bytes).answer ≡ Refused r → SurveyRefusal bytes r
+  pub refused_named : (r : Refusal) → (read_survey bytes).answer ≡ Err r → SurveyRefusal bytes r
   unfolding read_survey survey_answer
   refused_named r e =
       ⊎_elim (λ f. record_refusal r r.place refl (refused_at 0 (survey_header bytes ∷ record_faults bytes (count_of bytes)) r f)) (λ (t, f). sequence_refusal r t f)
       (one_refused faults_answer _ r e)
 
   -- and a file of which a refusal says so is refused by it
-  pub named_refused : (r : Refusal) → SurveyRefusal bytes r → (read_survey bytes).answer ≡ Refused r
+  pub named_refused : (r : Refusal) → SurveyRefusal bytes r → (read_survey bytes).answer ≡ Err r
   unfolding read_survey survey_answer
   named_refused r h = ⊎_elim (λ small. rw (of_record small r.place refl)) of_sequence h.number
     where
-      of_record : In (1 ‥ 8) r.number → (p : ℕ) → r.place ≡ p → faults_answer ≡ Refused r
+      of_record : In (1 ‥ 8) r.number → (p : ℕ) → r.place ≡ p → faults_answer ≡ Err r
       of_record small zero e =
           head_first 0 r.number (survey_header bytes) (record_faults bytes (count_of bytes)) (header_is 82 SURVEY_VERSIONS SURVEY_HEADER MOST_MEMBERS RECORD bytes (omega arith) (h.header_fault e)) (omega (arith, small)) ∙ ap (refusal r.number) (sym e)
       of_record small (suc i) e =
@@ -208,7 +207,7 @@ module _ (bytes : List ℕ) where
           let there : i + 1 ≡ r.place = omega arith in
           head_clear 0 _ (record_faults bytes (count_of bytes)) (survey_clear first.headed) ∙ fault_at fault 1 i (count_of bytes) r.number first.within before (member_is (record_at bytes i) first.fault) (omega (arith, small)) ∙ ap (refusal r.number) there
 
-      of_sequence : r.number ≡ 16 → or_else faults_answer (sequence_answer bytes (count_of bytes)) ≡ Refused r
+      of_sequence : r.number ≡ 16 → or_else faults_answer (sequence_answer bytes (count_of bytes)) ≡ Err r
       of_sequence e =
           let f = h.sequence_fault e in
           let there : r.place - 1 + 1 ≡ r.place = omega (arith, h.place (omega arith)) in

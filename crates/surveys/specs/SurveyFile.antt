@@ -1,6 +1,6 @@
 -- Reading a survey file, with the tests in document 01's order. 'Files': "Survey: the letters TBR, u16 version 1, u8 count
 -- 1..64, then per member 16 u16". From document 02 version 2 and refusal 16, request 8/13, and counts up to 255, request 12/13.
-use Rattle.std.specs.Prelude.{ℕ, ◌+◌, ◌-◌, ◌*◌, List, [], ◌∷◌, ◌++◌, Bool, not, ◌&&◌, ◌||◌, replicate, eqb, leb}
+use Rattle.std.specs.Prelude.{ℕ, ◌+◌, ◌-◌, ◌*◌, List, [], ◌∷◌, ◌++◌, Bool, not, ◌&&◌, ◌||◌, replicate, eqb, leb, Ok, Err}
 use Rattle.member.specs.declared.record.Member.{Member}
 use Rattle.member.specs.declared.record.Survey.{Survey}
 use Rattle.member.specs.Blank.{blank_member, blank_survey}
@@ -8,12 +8,9 @@ use Rattle.member.specs.Fields.{KIND, SPECIES, SPAN, CODE, MU_A, MU_B, FIELDS, L
 use Rattle.member.specs.Format.{Range, ◌‥◌, used, range_of, suits}
 use Rattle.files.specs.Words.{byte_at, words, each}
 use Rattle.section.specs.Choose.{choose, all}
-use Rattle.files.specs.Reading.{◌unless◌, first_of, first_fault, or_else, is_in}
+use Rattle.files.specs.Reading.{Reading, ◌unless◌, first_of, first_fault, or_else, is_in}
 use Rattle.files.specs.Header.{version_of, header_fault}
 use Rattle.surveys.specs.Sequence.{before_predecessor}
-use Rattle.files.specs.declared.Reading.{Reading}
-use Rattle.files.specs.declared.Reading.TheVariants.{Taken, Refused}
-use Rattle.surveys.specs.declared.SurveyRead.{SurveyRead}
 
 -- TBR, version and count
 abbrev pub SURVEY_HEADER : ℕ
@@ -86,7 +83,7 @@ sequence_fault bytes i = 16 unless not (before_predecessor (record_at bytes) i)
 
 -- of the first n records
 unfoldable pub sequence_answer : List ℕ → (n : ℕ) → Reading
-sequence_answer bytes n = choose (leb SEQUENCE_FROM (version_of bytes)) (first_fault 1 (each (sequence_fault bytes) n)) Taken
+sequence_answer bytes n = choose (leb SEQUENCE_FROM (version_of bytes)) (first_fault 1 (each (sequence_fault bytes) n)) (Ok tt)
 
 -- the header's fault has place 0, the records' places start at 1; 16 "after all records are otherwise good"
 abbrev pub answer_after : (header : ℕ) → List ℕ → Reading
@@ -103,8 +100,13 @@ survey_of bytes =
 
 -- a refused file gives a blank survey
 abbrev pub survey_by : Reading → List ℕ → Survey
-survey_by Taken bytes = survey_of bytes
-survey_by (Refused r) bytes = blank_survey
+survey_by (Ok tt) bytes = survey_of bytes
+survey_by (Err r) bytes = blank_survey
+
+-- what a file gives
+pub record SurveyRead : Type 0 where
+  pub answer : Reading
+  pub survey : Survey
 
 unfoldable pub read_survey : List ℕ → SurveyRead
 read_survey bytes = record { answer = survey_answer bytes; survey = survey_by (survey_answer bytes) bytes }

@@ -1,53 +1,49 @@
 // The faults of a member's record.
 ghost use Rattle.std.specs.Prelude.{◌≡◌, ◌<◌};
 ghost use Rattle.member.specs.Fields.{SPECIES, FIELDS};
+ghost use Rattle.files.specs.Fault.{fault_of};
 ghost use Rattle.surveys.specs.SurveyFile.{zeroed, within, ordered, code_fault};
 
 use crate::ranges::{is_used, limits_of, suits_kind};
-use files::limits::inside;
-use files::words::wider;
+use files::fault::Fault;
+use files::limits::Limits;
 use member::record::{CLOSE_STRINGER, CODE, KIND, MU_A, MU_B, Member, SPAN, SPECIES};
 
-const LAST_KIND: u32 = 7;
+const KINDS: Limits = Limits { low: 1, high: 7 };
 
-const LAST_SPECIES: u32 = 8;
+const ALL_SPECIES: Limits = Limits { low: 1, high: 8 };
 
 // The species is one of the list where the record uses it: `is_within` of that field, apart from it so that the loop over the
 // fields keeps the only call of `is_within` and can take it in.
 fn species_within(m: Member) -> bool
     ensures { result ≡ within m SPECIES }
 {
-    if inside(1, LAST_SPECIES, wider(m.fields[SPECIES])) {
-        return true;
-    }
-    !is_used(m.fields[KIND], m.fields[CODE], SPECIES)
+    ALL_SPECIES.contains(u32::from(m.fields[SPECIES]))
+        || !is_used(m.fields[KIND], m.fields[CODE], SPECIES)
 }
 
-// 4 kind; 5 species, where used; 6 section code does not suit the kind; or 0.
-pub fn code_fault(m: Member) -> u64
-    ensures { result ≡ code_fault m }
+// The kind; the species, where used; the section's code, which must suit the kind.
+pub fn code_fault(m: Member) -> Result<(), Fault>
+    ensures { fault_of result ≡ code_fault m }
 {
     let kind = m.fields[KIND];
-    let code = m.fields[CODE];
-    if !inside(1, LAST_KIND, wider(kind)) {
-        return 4;
+    if !KINDS.contains(u32::from(kind)) {
+        return Err(Fault::Kind);
     }
     if !species_within(m) {
-        return 5;
+        return Err(Fault::Species);
     }
-    if !suits_kind(kind, code) {
-        return 6;
+    if !suits_kind(kind, m.fields[CODE]) {
+        return Err(Fault::Section);
     }
-    0
+    Ok(())
 }
 
 // A is at most B; of closely spaced stringers, whose board width and deck rot they are, it need not be.
 pub fn is_ordered(m: Member) -> bool
     ensures { result ≡ ordered m }
 {
-    let close = m.fields[KIND] == CLOSE_STRINGER;
-    let below = m.fields[MU_A] <= m.fields[MU_B];
-    close | below
+    m.fields[KIND] == CLOSE_STRINGER || m.fields[MU_A] <= m.fields[MU_B]
 }
 
 // The field is 0 where the record does not use it.
@@ -55,10 +51,7 @@ pub fn is_zeroed(m: Member, f: usize) -> bool
     requires { f < FIELDS }
     ensures { result ≡ zeroed m f }
 {
-    if m.fields[f] == 0 {
-        return true;
-    }
-    is_used(m.fields[KIND], m.fields[CODE], f)
+    m.fields[f] == 0 || is_used(m.fields[KIND], m.fields[CODE], f)
 }
 
 // The field is in its range where the record uses it.
@@ -68,10 +61,6 @@ pub fn is_within(m: Member, f: usize) -> bool
 {
     let kind = m.fields[KIND];
     let code = m.fields[CODE];
-    let span = m.fields[SPAN];
-    let range = limits_of(kind, code, span, f);
-    if inside(range.low, range.high, wider(m.fields[f])) {
-        return true;
-    }
-    !is_used(kind, code, f)
+    let limits = limits_of(kind, code, m.fields[SPAN], f);
+    limits.contains(u32::from(m.fields[f])) || !is_used(kind, code, f)
 }

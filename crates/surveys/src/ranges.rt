@@ -4,7 +4,6 @@ ghost use Rattle.member.specs.Fields.{FIELDS};
 ghost use Rattle.member.specs.Format.{◌‥◌, holds, unused_by_kind, unused_by_code, used, distance_range, for_kind7, section_range, range_of, suits};
 
 use files::limits::Limits;
-use files::words::wider;
 use member::record::{
     CLOSE_STRINGER, DISTANCE, HEIGHT, MU_A, MU_B, S1, S3, S4, S5, S6, SPACING, SPECIES,
 };
@@ -215,6 +214,6 @@ fn distance_limits(kind: u16, span: u16) -> Limits
     if span == 0 {
         return Limits { low: 1, high: 0 };
     }
-    let high = wider(span - 1);
+    let high = u32::from(span - 1);
     Limits { low: 1, high }
 }

@@ -5,8 +5,9 @@ ghost use Rattle.surveys.specs.Sequence.{sequence_fields, before};
 ghost use Rattle.surveys.specs.SurveyFile.{SURVEY_HEADER, RECORD, record_at, sequence_answer};
 
 use crate::file::{HEADER, RECORD};
+use files::Refusal;
+use files::fault::Fault;
 use files::words::word_at;
-use files::{Reading, Refusal};
 use member::record::{KIND, SPACING, SPAN};
 
 // The version from which the records stand in order.
@@ -36,30 +37,21 @@ fn is_before(bytes: &[u8], i: usize) -> bool
     if span != span_ahead {
         return span < span_ahead;
     }
-    let spacing = field_at(bytes, i, SPACING);
-    let spacing_ahead = field_at(bytes, ahead, SPACING);
-    spacing < spacing_ahead
+    field_at(bytes, i, SPACING) < field_at(bytes, ahead, SPACING)
 }
 
-// 16 at the first record that stands before its predecessor. Version 1 keeps free order.
-pub fn sequence_answer(bytes: &[u8], count: usize) -> Reading
+// The first record that stands before its predecessor. Version 1 keeps free order.
+pub fn sequence_answer(bytes: &[u8], count: usize) -> Result<(), Refusal>
     requires { (1 ≤ count) × (SURVEY_HEADER + RECORD * count ≤ length bytes.now) }
     ensures { result ≡ sequence_answer bytes.now count }
 {
     if word_at(bytes, 3) < SEQUENCE_FROM {
-        return Reading::Taken;
+        return Ok(());
     }
-    let mut answer = Reading::Taken;
-    let mut i: usize = 1;
-    while i < count {
+    for i in 1..count {
         if is_before(bytes, i) {
-            answer = Reading::Refused(Refusal {
-                number: 16,
-                place: (i + 1) as u64,
-            });
-            break;
+            return Err(Fault::Sequence.at(i as u64 + 1));
         }
-        i += 1;
     }
-    answer
+    Ok(())
 }

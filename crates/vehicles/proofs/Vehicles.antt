@@ -1,5 +1,6 @@
 -- Reading a vehicle, beside what the document allows: a file is taken exactly when it is allowed, the vehicle then holds the
 -- file's numbers, and a refusal has its number and its place.
+use Rattle.std.specs.Prelude.{Ok, Err}
 use Prim.Native.Nat.{ℕ, zero, suc, ◌+◌, ◌-◌, ◌≤◌, ◌<◌}
 use mathlib.Core.Path.{◌≡◌, refl, ap, sym, ◌∙◌}
 use mathlib.Core.List.{List, [], ◌∷◌}
@@ -11,16 +12,14 @@ use borrow.Author.Tests.{lt-leb, ne_eqb}
 use Rattle.section.specs.Units.{weight, distance}
 use Rattle.member.specs.declared.record.Vehicle.{Vehicle}
 use Rattle.member.specs.Format.{Range, ◌‥◌, In, class_range, track_range, later_range, AllowedVehicle}
-use Rattle.files.specs.Reading.{◌unless◌, first_of, first_fault, is_in}
+use Rattle.files.specs.Reading.{Reading, ◌unless◌, first_of, first_fault, is_in}
 use Rattle.files.specs.Header.{version_of, header_fault}
 use Rattle.member.specs.Fields.{MOST_AXLES}
 use Rattle.vehicles.specs.VehicleFile.{VEHICLE_HEADER, AXLE_FIELDS, WEIGHT, DISTANCE, axle_size, axles_of, class_of, track_of, weight_at, distance_at, weights_in, axle_range, vehicle_header, field_within, axle_within, axle_fault, axle_faults, vehicle_answer, blank_vehicle, vehicle_of, vehicle_by, read_vehicle_of}
 use Rattle.vehicles.specs.Allowed.{AllowedVehicleOf}
 use Rattle.vehicles.specs.Refused.{FieldGood, VehicleHeaded, Fronted, FrontFault, wrong_header, wrong_class_or_track, FirstAxle, VehicleRefusalOf}
 use Rattle.files.specs.declared.Refusal.{Refusal}
-use Rattle.files.specs.declared.Reading.{Reading}
-use Rattle.files.specs.declared.Reading.TheVariants.{Taken, Refused}
-use Rattle.vehicles.specs.declared.VehicleRead.{VehicleRead}
+use Rattle.vehicles.specs.VehicleFile.{VehicleRead}
 use Rattle.section.proofs.Table.{all_at}
 use Rattle.files.proofs.Tests.{in_range, range_in, refuted, refutes, all_of, all_failing, all_fails, passed}
 use Rattle.files.proofs.Each.{length_each, getD_each}
@@ -170,7 +169,7 @@ module _ (versions : Range) (bytes : List ℕ) where
   clear : ((i : ℕ) → get_or (vehicle_header versions bytes ∷ axle_faults bytes (axles_of bytes)) i 0 ≡ 0) → (i : ℕ) → i < axles_of bytes → axle_fault bytes i ≡ 0
   clear none i l = sym (getD_each (axle_fault bytes) (axles_of bytes) i 0 l) ∙ none (suc i)
 
-  pub taken_allowed : (read_vehicle_of versions bytes).answer ≡ Taken → AllowedVehicleOf versions bytes
+  pub taken_allowed : (read_vehicle_of versions bytes).answer ≡ (Ok tt) → AllowedVehicleOf versions bytes
   unfolding read_vehicle_of vehicle_answer
   taken_allowed e =
       let none = taken_none 0 (vehicle_header versions bytes ∷ axle_faults bytes (axles_of bytes)) e in
@@ -183,7 +182,7 @@ module _ (versions : Range) (bytes : List ℕ) where
         weights = weights_within bytes (clear none);
       }
 
-  pub allowed_taken : AllowedVehicleOf versions bytes → (read_vehicle_of versions bytes).answer ≡ Taken
+  pub allowed_taken : AllowedVehicleOf versions bytes → (read_vehicle_of versions bytes).answer ≡ (Ok tt)
   unfolding read_vehicle_of vehicle_answer
   allowed_taken a =
       let long : VEHICLE_HEADER ≤ length bytes = omega (arith, a.size) in
@@ -192,21 +191,21 @@ module _ (versions : Range) (bytes : List ℕ) where
       head_clear 0 _ (axle_faults bytes (axles_of bytes)) front ∙ none_taken 1 (axle_fault bytes) (axles_of bytes) (vehicle_clear bytes a.vehicle a.weights)
 
   -- a taken file's vehicle is the file's, axle by axle, and is allowed
-  pub taken_vehicle : (read_vehicle_of versions bytes).answer ≡ Taken → (read_vehicle_of versions bytes).vehicle ≡ vehicle_of bytes
+  pub taken_vehicle : (read_vehicle_of versions bytes).answer ≡ (Ok tt) → (read_vehicle_of versions bytes).vehicle ≡ vehicle_of bytes
   unfolding read_vehicle_of
   taken_vehicle e = rw e
 
-  pub taken_weight : (read_vehicle_of versions bytes).answer ≡ Taken → (i : ℕ) → i < axles_of bytes → weight (read_vehicle_of versions bytes).vehicle.weights i ≡ weight_at bytes i
+  pub taken_weight : (read_vehicle_of versions bytes).answer ≡ (Ok tt) → (i : ℕ) → i < axles_of bytes → weight (read_vehicle_of versions bytes).vehicle.weights i ≡ weight_at bytes i
   taken_weight e i l = rw (taken_vehicle e) (weight_is bytes i l)
 
-  pub taken_distance : (read_vehicle_of versions bytes).answer ≡ Taken → (i : ℕ) → i < axles_of bytes → distance (read_vehicle_of versions bytes).vehicle.distances i ≡ distance_at bytes i
+  pub taken_distance : (read_vehicle_of versions bytes).answer ≡ (Ok tt) → (i : ℕ) → i < axles_of bytes → distance (read_vehicle_of versions bytes).vehicle.distances i ≡ distance_at bytes i
   taken_distance e i l = rw (taken_vehicle e) (distance_is bytes i l)
 
-  pub taken_vehicle_allowed : (read_vehicle_of versions bytes).answer ≡ Taken → AllowedVehicle (read_vehicle_of versions bytes).vehicle
+  pub taken_vehicle_allowed : (read_vehicle_of versions bytes).answer ≡ (Ok tt) → AllowedVehicle (read_vehicle_of versions bytes).vehicle
   taken_vehicle_allowed e = rw (taken_vehicle e) (taken_allowed e).vehicle
 
   -- a refused file gives a blank vehicle
-  pub refused_blank : (r : Refusal) → (read_vehicle_of versions bytes).answer ≡ Refused r → (read_vehicle_of versions bytes).vehicle ≡ blank_vehicle
+  pub refused_blank : (r : Refusal) → (read_vehicle_of versions bytes).answer ≡ Err r → (read_vehicle_of versions bytes).vehicle ≡ blank_vehicle
   unfolding read_vehicle_of
   refused_blank r e = rw e
 
@@ -217,7 +216,7 @@ module _ (versions : Range) (bytes : List ℕ) where
       (λ r e. rw (refused_blank r e) (padded_rows blank_vehicle (λ i. 0) (λ i. 0) refl refl))
 
   -- a refusal is the first fault by place
-  pub refused_first : (r : Refusal) → (read_vehicle_of versions bytes).answer ≡ Refused r → FaultAt 0 (vehicle_header versions bytes ∷ axle_faults bytes (axles_of bytes)) r
+  pub refused_first : (r : Refusal) → (read_vehicle_of versions bytes).answer ≡ Err r → FaultAt 0 (vehicle_header versions bytes ∷ axle_faults bytes (axles_of bytes)) r
   unfolding read_vehicle_of vehicle_answer
   refused_first r e = refused_at 0 (vehicle_header versions bytes ∷ axle_faults bytes (axles_of bytes)) r e
 
@@ -255,15 +254,15 @@ module _ (versions : Range) (bytes : List ℕ) where
       }
 
   -- what it says of the file
-  pub refused_named : (r : Refusal) → (read_vehicle_of versions bytes).answer ≡ Refused r → VehicleRefusalOf versions bytes r
+  pub refused_named : (r : Refusal) → (read_vehicle_of versions bytes).answer ≡ Err r → VehicleRefusalOf versions bytes r
   refused_named r e = refusal_at r r.place refl (refused_first r e)
 
   -- and a file of which a refusal says so is refused by it
-  pub named_refused : (r : Refusal) → VehicleRefusalOf versions bytes r → (read_vehicle_of versions bytes).answer ≡ Refused r
+  pub named_refused : (r : Refusal) → VehicleRefusalOf versions bytes r → (read_vehicle_of versions bytes).answer ≡ Err r
   unfolding read_vehicle_of vehicle_answer
   named_refused r h = go r.place refl
     where
-      go : (p : ℕ) → r.place ≡ p → first_fault 0 (vehicle_header versions bytes ∷ axle_faults bytes (axles_of bytes)) ≡ Refused r
+      go : (p : ℕ) → r.place ≡ p → first_fault 0 (vehicle_header versions bytes ∷ axle_faults bytes (axles_of bytes)) ≡ Err r
       go zero e =
           head_first 0 r.number (vehicle_header versions bytes) (axle_faults bytes (axles_of bytes)) (front_is (h.front_fault e)) (⊎_elim (λ n. omega arith) (λ n. omega arith) h.number) ∙ ap (refusal r.number) (sym e)
       go (suc i) e =

@@ -1,18 +1,15 @@
 -- Reading a vehicle file, with the tests in document 01's order. 'Files': "Vehicle: TBV, u16 version 1, u8 class, u16 track
 -- 100..300, u8 axles 1..16, then per axle u16 weight 1..60000 and u16 distance from the axle in front, 0 for the first,
 -- 1..2000 after." Document 02, request 9/13: "Vehicle version 2 stores a weight in four bytes, 1..200000. Both versions are read."
-use Rattle.std.specs.Prelude.{ℕ, ◌+◌, ◌-◌, ◌*◌, ◌≤◌, ◌<◌, ◌≡◌, List, [], ◌∷◌, ◌++◌, Bool, ◌&&◌, length, replicate, eqb}
+use Rattle.std.specs.Prelude.{ℕ, ◌+◌, ◌-◌, ◌*◌, ◌≤◌, ◌<◌, ◌≡◌, List, [], ◌∷◌, ◌++◌, Bool, ◌&&◌, length, replicate, eqb, Ok, Err}
 use Rattle.member.specs.declared.record.Vehicle.{Vehicle}
 use Rattle.member.specs.Fields.{MOST_AXLES}
 use Rattle.section.specs.Choose.{choose, all}
 use Rattle.section.specs.Units.{centimetres, kgf}
 use Rattle.member.specs.Format.{Range, ◌‥◌, class_range, track_range, later_range}
 use Rattle.files.specs.Words.{byte_at, word_at, number_at, each}
-use Rattle.files.specs.Reading.{◌unless◌, first_of, first_fault, is_in}
+use Rattle.files.specs.Reading.{Reading, ◌unless◌, first_of, first_fault, is_in}
 use Rattle.files.specs.Header.{version_of, header_fault}
-use Rattle.files.specs.declared.Reading.{Reading}
-use Rattle.files.specs.declared.Reading.TheVariants.{Taken, Refused}
-use Rattle.vehicles.specs.declared.VehicleRead.{VehicleRead}
 
 -- TBV, version, class, track and axles
 abbrev pub VEHICLE_HEADER : ℕ
@@ -131,8 +128,13 @@ vehicle_of bytes =
 
 -- a refused file gives a blank vehicle
 abbrev pub vehicle_by : Reading → List ℕ → Vehicle
-vehicle_by Taken bytes = vehicle_of bytes
-vehicle_by (Refused r) bytes = blank_vehicle
+vehicle_by (Ok tt) bytes = vehicle_of bytes
+vehicle_by (Err r) bytes = blank_vehicle
+
+-- what a file gives
+pub record VehicleRead : Type 0 where
+  pub answer : Reading
+  pub vehicle : Vehicle
 
 -- a file in one of these versions
 unfoldable pub read_vehicle_of : (versions : Range) → List ℕ → VehicleRead

@@ -1,10 +1,10 @@
 -- `between::judge_between` meets its contract: the tests come to those of the definition, and where none fails the surveys are allowed, as
 -- long as each other, and the list has room.
 -- Assumes nothing.
+use Rattle.std.specs.Prelude.{Ok, Err}
 use mathlib.Core.Path.{◌≡◌, sym, ◌∙◌}
 use native.Mathlib.Omega.{arith}
 use lib.ListN.{length}
-use Rattle.files.specs.declared.Reading.TheVariants.{Taken}
 use Rattle.files.specs.Reading.{first_refusal}
 use Rattle.between.specs.Between.{between_tests}
 use Rattle.between.proofs.Pairs.{taken_survey_allowed, read_count, read_few, tests_are, Passed, all_passed, same_count, verdict_given, refusal_given, list_filled, list_kept}
@@ -21,7 +21,7 @@ answered c =
     rw (c.or_else-answer.ensures, c.or_else.ensures, c.test.ensures, room.test-room.ensures, pair.ensures.answer, pair.ensures.first)
     (tests_are a.first.now a.second.now a.v (length a.list.now))
 
-no_fault : (c : After-or_else-answer) → c.or_else-answer.result ≡ Taken → let a = c.args in
+no_fault : (c : After-or_else-answer) → c.or_else-answer.result ≡ (Ok tt) → let a = c.args in
     Passed a.v a.first.now a.second.now (length a.list.now)
 no_fault c e = all_passed _ _ _ _ (sym (answered c) ∙ e)
 
@@ -34,7 +34,7 @@ pub fill-requires : goal.fill-requires
 fill-requires c =
     let o = c in
     let r = o in
-    let p = no_fault (goal.at.fill-requires c).After-or_else-answer c.in-Taken.is in
+    let p = no_fault (goal.at.fill-requires c).After-or_else-answer c.in-Ok.is in
     let a = r.read_pair-pair.ensures.first in
     let b = r.read_pair-pair.ensures.second in (
       rw a (taken_survey_allowed _ p.first_taken),
@@ -44,12 +44,12 @@ fill-requires c =
       rw (a, read_count _ p.first_taken) p.room_enough,
     )
 
-pub returns-in-Taken : goal.returns-in-Taken
-returns-in-Taken c =
+pub returns-in-Ok : goal.returns-in-Ok
+returns-in-Ok c =
     let f = c in
     let o = f in
     let r = o in
-    let p = no_fault (goal.at.returns-in-Taken c).After-or_else-answer f.in-Taken.is in
+    let p = no_fault (goal.at.returns-in-Ok c).After-or_else-answer f.in-Ok.is in
     let a = r.read_pair-pair.ensures.first in
     let b = r.read_pair-pair.ensures.second in
     record {
@@ -57,10 +57,10 @@ returns-in-Taken c =
       list = list_filled _ _ _ _ p (rw (a, b) at f.fill.ensures.list);
     }
 
-pub returns-in-Refused : goal.returns-in-Refused
-returns-in-Refused c =
+pub returns-in-Err : goal.returns-in-Err
+returns-in-Err c =
     let o = c in
-    let e = sym (answered (goal.at.returns-in-Refused c).After-or_else-answer) ∙ c.in-Refused.is in
+    let e = sym (answered (goal.at.returns-in-Err c).After-or_else-answer) ∙ c.in-Err.is in
     record {
       is = refusal_given _ _ _ _ _ e;
       list = list_kept _ _ _ _ _ e;

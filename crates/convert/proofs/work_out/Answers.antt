@@ -7,7 +7,7 @@ use Rattle.section.proofs.Products.{product_cap, product_fits}
 use Rattle.member.specs.Fields.{MOST_AXLES}
 use Rattle.files.specs.Reading.{first_refusal}
 use Rattle.vehicles.specs.VehicleFile.{LONGEST_AXLE, vehicle_of}
-use Rattle.vehicles.specs.declared.VehicleRead.{VehicleRead}
+use Rattle.vehicles.specs.VehicleFile.{VehicleRead}
 use Rattle.vehicles.proofs.Vehicles.{few_axles, taken_vehicle}
 use Rattle.convert.specs.Convert.{wanted_version, convert_tests}
 use Rattle.convert.proofs.Files.{length_vehicle}
@@ -43,22 +43,22 @@ answered c =
 pub vehicle_bytes-requires : goal.vehicle_bytes-requires
 vehicle_bytes-requires c = few (goal.at.vehicle_bytes-requires c).After-read_given-read
 
-pub returns-in-Taken : goal.returns-in-Taken
-returns-in-Taken c =
+pub returns-in-Ok : goal.returns-in-Ok
+returns-in-Ok c =
     let o = c in
     let s = o in
     let w = s in
     let r = w in
     let a = r.args in
-    let p = all_passed a.wanted a.file.now a.room (sym (answered (goal.at.returns-in-Taken c).After-or_else-answer) ∙ c.in-Taken.is) in
+    let p = all_passed a.wanted a.file.now a.room (sym (answered (goal.at.returns-in-Ok c).After-or_else-answer) ∙ c.in-Ok.is) in
     let v : r.read_given-read.result.vehicle ≡ vehicle_of a.file.now = ap (λ (x : VehicleRead). x.vehicle) r.read_given-read.ensures ∙ taken_vehicle _ _ p.taken in
     let size = sym (length_vehicle (wanted_version a.wanted) (vehicle_of a.file.now)) in
     let both = work_written a.wanted a.file.now a.room p c.vehicle_bytes.result
     (rw (s.axle_size.ensures.is, w.wanted_version-version.ensures, v) size)
     (rw (w.wanted_version-version.ensures, v) at c.vehicle_bytes.ensures) in record { is = both.0; bytes = both.1.0; length = both.1.1.0; cap = both.1.1.1 }
 
-pub returns-in-Refused : goal.returns-in-Refused
-returns-in-Refused c =
+pub returns-in-Err : goal.returns-in-Err
+returns-in-Err c =
     let o = c in
     let a = o.args in
-    let both = work_refused a.wanted a.file.now a.room _ (sym (answered (goal.at.returns-in-Refused c).After-or_else-answer) ∙ c.in-Refused.is) c.refused_work.result.bytes c.refused_work.ensures.is c.refused_work.ensures.length in record { is = both.0; bytes = both.1.0; length = both.1.1.0; cap = both.1.1.1 }
+    let both = work_refused a.wanted a.file.now a.room _ (sym (answered (goal.at.returns-in-Err c).After-or_else-answer) ∙ c.in-Err.is) c.refused_work.result.bytes c.refused_work.ensures.is c.refused_work.ensures.length in record { is = both.0; bytes = both.1.0; length = both.1.1.0; cap = both.1.1.1 }

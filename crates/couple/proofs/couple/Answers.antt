@@ -23,20 +23,20 @@ unfolding couple
 coupled-vehicle-requires c =
     let o = c in
     let r = o in
-    let all = sym (answered (goal.at.coupled-vehicle-requires c).After-or_else-answer) ∙ c.in-Taken.is in
+    let all = sym (answered (goal.at.coupled-vehicle-requires c).After-or_else-answer) ∙ c.in-Ok.is in
     (rw r.read_vehicle-lorry.ensures (padded_read _ _), rw (r.read_vehicle-lorry.ensures, r.read_vehicle-trailer.ensures) (room_enough _ _ o.args.gap.0 all))
 
-pub returns-in-Taken : goal.returns-in-Taken
+pub returns-in-Ok : goal.returns-in-Ok
 unfolding couple
-returns-in-Taken c =
+returns-in-Ok c =
     let e = c in
     let o = e in
     let r = o in
-    rw (c.coupled-vehicle.ensures, answered (goal.at.returns-in-Taken c).After-or_else-answer, sym (answered (goal.at.returns-in-Taken c).After-or_else-answer) ∙ e.in-Taken.is, r.read_vehicle-trailer.ensures, r.read_vehicle-lorry.ensures)
+    rw (c.coupled-vehicle.ensures, answered (goal.at.returns-in-Ok c).After-or_else-answer, sym (answered (goal.at.returns-in-Ok c).After-or_else-answer) ∙ e.in-Ok.is, r.read_vehicle-trailer.ensures, r.read_vehicle-lorry.ensures)
 
-pub returns-in-Refused : goal.returns-in-Refused
+pub returns-in-Err : goal.returns-in-Err
 unfolding couple
-returns-in-Refused c =
+returns-in-Err c =
     let e = c in
     let o = e in
-    rw (c.blank_vehicle-vehicle.ensures, answered (goal.at.returns-in-Refused c).After-or_else-answer, sym (answered (goal.at.returns-in-Refused c).After-or_else-answer) ∙ e.in-Refused.is)
+    rw (c.blank_vehicle-vehicle.ensures, answered (goal.at.returns-in-Err c).After-or_else-answer, sym (answered (goal.at.returns-in-Err c).After-or_else-answer) ∙ e.in-Err.is)

@@ -3,11 +3,11 @@
 use Rattle.exports.proofs.Files.{refused, counted, filled}
 use Rattle.exports.proofs.tbr_member_loads.Goals as goal
 
-pub returns-in-Refused : goal.returns-in-Refused
-returns-in-Refused c =
+pub returns-in-Err : goal.returns-in-Err
+returns-in-Err c =
     let a = c.args in
     let o = c.load_files-both in
-    let both = refused _ a.vehicle.now a.list.now o.result o.ensures.is _ c.loads_of.result c.in-Refused.is c.loads_of.ensures in record { is = both.0; list = both.1 }
+    let both = refused _ a.vehicle.now a.list.now o.result o.ensures.is _ c.loads_of.result c.in-Err.is c.loads_of.ensures in record { is = both.0; list = both.1 }
 
 pub count_of-requires : goal.count_of-requires
 count_of-requires c =

@@ -5,19 +5,19 @@ use Rattle.gauge.specs.Gauge.{gauged}
 use Rattle.gauge.specs.Fault.{MayBeGauged}
 use Rattle.gauge.proofs.Refusals.{taken_good}
 use Rattle.gauge.proofs.gauge.Goals as goal
-use Rattle.gauge.proofs.gauge.Goals.{In-Taken}
+use Rattle.gauge.proofs.gauge.Goals.{In-Ok}
 
 -- every test holds
-good : (c : In-Taken) → MayBeGauged c.args.readings
-good c = taken_good _ (sym c.readings_answer-answer.ensures ∙ c.in-Taken.is)
+good : (c : In-Ok) → MayBeGauged c.args.readings
+good c = taken_good _ (sym c.readings_answer-answer.ensures ∙ c.in-Ok.is)
 
 pub compared-requires : goal.compared-requires
-compared-requires c = (c.requires, good (goal.at.compared-requires c).In-Taken)
+compared-requires c = (c.requires, good (goal.at.compared-requires c).In-Ok)
 
-pub returns-in-Taken : goal.returns-in-Taken
+pub returns-in-Ok : goal.returns-in-Ok
 unfolding gauged
-returns-in-Taken c = rw (c.compared.ensures, sym c.readings_answer-answer.ensures ∙ c.in-Taken.is)
+returns-in-Ok c = rw (c.compared.ensures, sym c.readings_answer-answer.ensures ∙ c.in-Ok.is)
 
-pub returns-in-Refused : goal.returns-in-Refused
+pub returns-in-Err : goal.returns-in-Err
 unfolding gauged
-returns-in-Refused c = rw (sym c.readings_answer-answer.ensures ∙ c.in-Refused.is)
+returns-in-Err c = rw (sym c.readings_answer-answer.ensures ∙ c.in-Err.is)

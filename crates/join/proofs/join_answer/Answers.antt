@@ -17,15 +17,15 @@ files c = rw (c.or_else-files.ensures, c.read_survey-a.ensures, c.read_survey-b.
 pub both_answer-requires : goal.both_answer-requires
 both_answer-requires c =
     let o = c in
-    let (a, b) = both_taken _ _ (sym (files (goal.at.both_answer-requires c).After-or_else-files) ∙ c.in-Taken.is) in
+    let (a, b) = both_taken _ _ (sym (files (goal.at.both_answer-requires c).After-or_else-files) ∙ c.in-Ok.is) in
     (taken_allowed _ a, taken_allowed _ b)
 
-pub returns-in-Taken : goal.returns-in-Taken
-returns-in-Taken c =
+pub returns-in-Ok : goal.returns-in-Ok
+returns-in-Ok c =
     let o = c in
-    tests_are _ _ _ (sym (files (goal.at.returns-in-Taken c).After-or_else-files) ∙ c.in-Taken.is) c.both_answer.ensures
+    tests_are _ _ _ (sym (files (goal.at.returns-in-Ok c).After-or_else-files) ∙ c.in-Ok.is) c.both_answer.ensures
 
-pub returns-in-Refused : goal.returns-in-Refused
-returns-in-Refused c =
+pub returns-in-Err : goal.returns-in-Err
+returns-in-Err c =
     let o = c in
-    files (goal.at.returns-in-Refused c).After-or_else-files ∙ tests_refuse _ _ _ _ (sym (files (goal.at.returns-in-Refused c).After-or_else-files) ∙ c.in-Refused.is)
+    files (goal.at.returns-in-Err c).After-or_else-files ∙ tests_refuse _ _ _ _ (sym (files (goal.at.returns-in-Err c).After-or_else-files) ∙ c.in-Err.is)

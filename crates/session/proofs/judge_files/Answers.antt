@@ -1,17 +1,17 @@
 -- `session::judge_files` meets its contract: a survey that is refused answers itself; else the vehicle is judged on it.
 -- Assumes nothing.
+use Rattle.std.specs.Prelude.{Ok, Err}
 use mathlib.Core.Path.{◌≡◌, sym, ◌∙◌}
 use Rattle.surveys.specs.SurveyFile.{read_survey}
-use Rattle.files.specs.declared.Reading.TheVariants.{Taken}
 use Rattle.between.proofs.Pairs.{taken_survey_allowed}
 use Rattle.session.proofs.State.{files_refused, files_alone}
 use Rattle.session.proofs.judge_files.Goals as goal
 use Rattle.session.proofs.judge_files.Goals.{In_default}
 
-pub returns-in-Refused : goal.returns-in-Refused
-returns-in-Refused c = sym (files_refused _ _ _ (rw c.read_survey-read.ensures at c.in-Refused.is))
+pub returns-in-Err : goal.returns-in-Err
+returns-in-Err c = sym (files_refused _ _ _ (rw c.read_survey-read.ensures at c.in-Err.is))
 
-taken : (c : In_default) → (read_survey c.args.survey.now).answer ≡ Taken
+taken : (c : In_default) → (read_survey c.args.survey.now).answer ≡ (Ok tt)
 taken c = rw c.read_survey-read.ensures at c.in_default.is
 
 pub judge_vehicle-requires : goal.judge_vehicle-requires

@@ -1,18 +1,18 @@
 -- `session::judge_vehicle` meets its contract: a vehicle that is refused answers itself; else both are allowed and the list is long enough.
 -- Assumes nothing.
+use Rattle.std.specs.Prelude.{Ok, Err}
 use mathlib.Core.Path.{◌≡◌, sym}
 use native.Mathlib.Omega.{arith}
-use Rattle.files.specs.declared.Reading.TheVariants.{Taken}
 use Rattle.vehicles.specs.VehicleFile.{VEHICLE_VERSIONS, read_vehicle}
 use Rattle.vehicles.proofs.Vehicles.{taken_vehicle_allowed}
 use Rattle.session.proofs.State.{alone_refused, alone_taken}
 use Rattle.session.proofs.judge_vehicle.Goals as goal
 use Rattle.session.proofs.judge_vehicle.Goals.{In_default}
 
-pub returns-in-Refused : goal.returns-in-Refused
-returns-in-Refused c = sym (alone_refused _ _ _ (rw c.read_vehicle-read.ensures at c.in-Refused.is))
+pub returns-in-Err : goal.returns-in-Err
+returns-in-Err c = sym (alone_refused _ _ _ (rw c.read_vehicle-read.ensures at c.in-Err.is))
 
-taken : (c : In_default) → (read_vehicle c.args.vehicle.now).answer ≡ Taken
+taken : (c : In_default) → (read_vehicle c.args.vehicle.now).answer ≡ (Ok tt)
 taken c = rw c.read_vehicle-read.ensures at c.in_default.is
 
 pub judge-requires : goal.judge-requires

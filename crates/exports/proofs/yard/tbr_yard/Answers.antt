@@ -20,11 +20,11 @@ survey-loaded c = rw c.new.ensures.is at c.load_survey-first.ensures.is
 pub numbers_of-requires : goal.numbers_of-requires
 numbers_of-requires c = tt
 
-pub returns-in-Refused : goal.returns-in-Refused
-returns-in-Refused c =
+pub returns-in-Err : goal.returns-in-Err
+returns-in-Err c =
     let o = c in
     let a = o.args in
-    let both = refused _ a.yard.now a.list.now o.load_survey-first.result (survey-loaded (goal.at.returns-in-Refused c).After-load_survey-first) _ c.numbers_of.result c.in-Refused.is c.numbers_of.ensures in record { is = both.0; list = both.1 }
+    let both = refused _ a.yard.now a.list.now o.load_survey-first.result (survey-loaded (goal.at.returns-in-Err c).After-load_survey-first) _ c.numbers_of.result c.in-Err.is c.numbers_of.ensures in record { is = both.0; list = both.1 }
 
 pub yard_answers-found-requires : goal.yard_answers-found-requires
 yard_answers-found-requires c = c.load_survey-first.ensures.valid

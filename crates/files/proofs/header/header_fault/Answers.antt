@@ -15,35 +15,32 @@ pub returns-then-not-is_marked : goal.returns-then-not-is_marked
 unfolding header_fault
 returns-then-not-is_marked c = rw (le-leb _ _ c.if-bytes-header.false, fails c.is_marked.ensures c.if-not-is_marked.true)
 
-pub returns-then-not-inside : goal.returns-then-not-inside
+pub returns-then-not-contains : goal.returns-then-not-contains
 unfolding header_fault
-returns-then-not-inside c =
-    let b = c in
-    let counted = rw c.wider.ensures at c.inside.ensures in
-    rw (le-leb _ _ b.if-bytes-header.false, holds b.is_marked.ensures b.if-not-is_marked.false, ← b.wide-count.ensures.0, fails counted c.if-not-inside.true)
+returns-then-not-contains c =
+    let counted = rw c.from.ensures at c.contains.ensures in
+    rw (le-leb _ _ c.if-bytes-header.false, holds c.is_marked.ensures c.if-not-is_marked.false, fails counted c.if-not-contains.true)
 
 pub overflow_mul-size : goal.overflow_mul-size
 overflow_mul-size c =
-    let b = c in
-    let most : b.wide-count.result ≤ 255 = omega (arith, b.wide-count.ensures.1) in
-    omega (arith, mul-le-mul_left b.args.size most)
+    let most : c.from-2.result ≤ 255 = omega (arith, c.from-2.type_inv) in
+    omega (arith, mul-le-mul_left c.args.size most)
 
 pub overflow_add-header : goal.overflow_add-header
 overflow_add-header c =
-    let b = c in
-    let most : b.wide-count.result ≤ 255 = omega (arith, b.wide-count.ensures.1) in
-    omega (arith, mul-le-mul_left b.args.size most)
+    let most : c.from-2.result ≤ 255 = omega (arith, c.from-2.type_inv) in
+    omega (arith, mul-le-mul_left c.args.size most)
 
 pub returns-then-bytes-header-2 : goal.returns-then-bytes-header-2
 unfolding header_fault
 returns-then-bytes-header-2 c =
-    let b = c in
-    let counted = rw c.wider.ensures at c.inside.ensures in
-    rw (le-leb _ _ b.if-bytes-header.false, holds b.is_marked.ensures b.if-not-is_marked.false, ← b.wide-count.ensures.0, holds counted c.if-not-inside.false, ne_eqb _ _ c.if-bytes-header-2.true)
+    let counted = rw c.from.ensures at c.contains.ensures in
+    let sized = rw c.from-2.ensures at c.if-bytes-header-2.true in
+    rw (le-leb _ _ c.if-bytes-header.false, holds c.is_marked.ensures c.if-not-is_marked.false, holds counted c.if-not-contains.false, ne_eqb _ _ sized)
 
 pub returns : goal.returns
 unfolding header_fault
 returns c =
-    let b = c in
-    let counted = rw c.wider.ensures at c.inside.ensures in
-    rw (le-leb _ _ b.if-bytes-header.false, holds b.is_marked.ensures b.if-not-is_marked.false, ← b.wide-count.ensures.0, holds counted c.if-not-inside.false, eq-eqb _ _ c.if-bytes-header-2.false)
+    let counted = rw c.from.ensures at c.contains.ensures in
+    let sized = rw c.from-2.ensures at c.if-bytes-header-2.false in
+    rw (le-leb _ _ c.if-bytes-header.false, holds c.is_marked.ensures c.if-not-is_marked.false, holds counted c.if-not-contains.false, eq-eqb _ _ sized)

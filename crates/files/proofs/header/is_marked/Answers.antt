@@ -4,4 +4,4 @@ use Rattle.files.proofs.header.is_marked.Goals as goal
 
 pub returns : goal.returns
 unfolding marked
-returns c = rw (c.inside-version.ensures, c.wider.ensures, c.word_at.ensures)
+returns c = rw (c.contains-version.ensures, c.from.ensures, c.word_at.ensures)

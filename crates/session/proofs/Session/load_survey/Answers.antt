@@ -3,21 +3,21 @@
 use Rattle.session.proofs.State.{survey_stored, survey_kept, valid_survey}
 use Rattle.session.proofs.Session.load_survey.Goals as goal
 
-pub returns-in-Taken : goal.returns-in-Taken
-returns-in-Taken c =
+pub returns-in-Ok : goal.returns-in-Ok
+returns-in-Ok c =
     let r = c.read_survey-read in
-    let t = c.in-Taken.is in
+    let t = c.in-Ok.is in
     let a = c.args in
     record {
       is = survey_stored a.self a.bytes.now r.result r.ensures t;
       valid = rw r.ensures (valid_survey a.self a.bytes.now c.requires (rw r.ensures at t));
     }
 
-pub returns-in-Refused : goal.returns-in-Refused
-returns-in-Refused c =
+pub returns-in-Err : goal.returns-in-Err
+returns-in-Err c =
     let r = c.read_survey-read in
     let a = c.args in
     record {
-      is = survey_kept a.self a.bytes.now r.result _ r.ensures c.in-Refused.is;
+      is = survey_kept a.self a.bytes.now r.result _ r.ensures c.in-Err.is;
       valid = c.requires;
     }

@@ -22,12 +22,12 @@ ran s yard count run e r = subst (λ (n : ℕ). Ran s yard n run) e r
 pub refused-requires : goal.refused-requires
 refused-requires c = tt
 
-pub returns-in-Refused : goal.returns-in-Refused
-returns-in-Refused c =
+pub returns-in-Err : goal.returns-in-Err
+returns-in-Err c =
     let p = c.requires in
     let r = ran _ _ _ _ p.2 p.3 in
     rw c.refused.ensures
-    (answered_refused _ _ _ p.0 _ _ r.sized (vehicle_refused _ _ _ p.1 _ _ (sym r.answer ∙ ap load_answer c.in-Refused.is)))
+    (answered_refused _ _ _ p.0 _ _ r.sized (vehicle_refused _ _ _ p.1 _ _ (sym r.answer ∙ ap load_answer c.in-Err.is)))
 
 pub overflow_sub-yard : goal.overflow_sub-yard
 overflow_sub-yard c = ((ran _ _ _ _ c.requires.2 c.requires.3).going c.in_default.is).within

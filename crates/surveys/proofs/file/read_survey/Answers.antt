@@ -23,18 +23,18 @@ members_of-members-requires c =
     let w = c.count_of-count.ensures.0 in
     (omega (arith, h.count, w), omega (arith, h.sized, w))
 
-pub returns-in-Taken : goal.returns-in-Taken
-returns-in-Taken c =
+pub returns-in-Ok : goal.returns-in-Ok
+returns-in-Ok c =
     let w = c in
     let b = w.args.bytes.now in
     let clear = sym w.header_fault-number.ensures ∙ w.if-number-ne0.false in
     let e = rw w.count_of-count.ensures.0 at c.records_answer-answer.ensures in
-    read_as b c.records_answer-answer.result _ (e ∙ sym (headed_clear b clear)) (rw (c.in-Taken.is, c.members_of-members.ensures, w.count_of-count.ensures.0))
+    read_as b c.records_answer-answer.result _ (e ∙ sym (headed_clear b clear)) (rw (c.in-Ok.is, c.members_of-members.ensures, w.count_of-count.ensures.0))
 
-pub returns-in-Refused : goal.returns-in-Refused
-returns-in-Refused c =
+pub returns-in-Err : goal.returns-in-Err
+returns-in-Err c =
     let w = c in
     let b = w.args.bytes.now in
     let clear = sym w.header_fault-number.ensures ∙ w.if-number-ne0.false in
     let e = rw w.count_of-count.ensures.0 at c.records_answer-answer.ensures in
-    read_as b c.refused-in-Refused.result.answer c.refused-in-Refused.result.survey (c.refused-in-Refused.ensures.0 ∙ e ∙ sym (headed_clear b clear)) (rw (c.refused-in-Refused.ensures.0, c.in-Refused.is) c.refused-in-Refused.ensures.1)
+    read_as b c.refused-in-Err.result.answer c.refused-in-Err.result.survey (c.refused-in-Err.ensures.0 ∙ e ∙ sym (headed_clear b clear)) (rw (c.refused-in-Err.ensures.0, c.in-Err.is) c.refused-in-Err.ensures.1)

@@ -58,12 +58,12 @@ answered c =
     let b = c.args.bytes.now in
     (rw c.wide-axles.ensures.0 at c.first_fault-answer.ensures) ∙ sym (head_clear 0 _ (axle_faults b (axles_of b)) (sym c.vehicle_header-number.ensures ∙ c.if-number-ne0.false))
 
-pub returns-in-Taken : goal.returns-in-Taken
-returns-in-Taken c =
+pub returns-in-Ok : goal.returns-in-Ok
+returns-in-Ok c =
     let a = c in
-    read_as _ a.args.bytes.now a.first_fault-answer.result c.vehicle_of-vehicle.result (answered (goal.at.returns-in-Taken c).After-first_fault-answer) (rw c.in-Taken.is c.vehicle_of-vehicle.ensures)
+    read_as _ a.args.bytes.now a.first_fault-answer.result c.vehicle_of-vehicle.result (answered (goal.at.returns-in-Ok c).After-first_fault-answer) (rw c.in-Ok.is c.vehicle_of-vehicle.ensures)
 
-pub returns-in-Refused : goal.returns-in-Refused
-returns-in-Refused c =
+pub returns-in-Err : goal.returns-in-Err
+returns-in-Err c =
     let a = c in
-    read_as _ a.args.bytes.now c.refused-in-Refused.result.answer c.refused-in-Refused.result.vehicle (c.refused-in-Refused.ensures.0 ∙ answered (goal.at.returns-in-Refused c).After-first_fault-answer) (rw (c.refused-in-Refused.ensures.0, c.in-Refused.is) c.refused-in-Refused.ensures.1)
+    read_as _ a.args.bytes.now c.refused-in-Err.result.answer c.refused-in-Err.result.vehicle (c.refused-in-Err.ensures.0 ∙ answered (goal.at.returns-in-Err c).After-first_fault-answer) (rw (c.refused-in-Err.ensures.0, c.in-Err.is) c.refused-in-Err.ensures.1)
