@@ -14,10 +14,13 @@ use lib.Dec.{eqb}
 use borrow.Author.Tests.{eqb-true, eqb-false, eq-eqb, ne_eqb}
 use Rattle.section.specs.Choose.{choose}
 use Rattle.files.specs.Words.{each}
-use Rattle.files.specs.Reading.{◌unless◌, first_fault, or_else, test, number_of, place_of}
+use Rattle.files.specs.Fault.{fault_number, fault_of}
+use Rattle.files.specs.declared.fault.Fault.{Fault}
+use Rattle.files.specs.declared.fault.Fault.TheVariants.{Length, Mark, Count, Kind, Species, Section, Range, Unused, NoSurvey, NoVehicle, NoPlace, NoRoom, Order, Sequence, Weight, Disagreement, Apart, Gauge}
+use Rattle.files.specs.Reading.{◌unless◌, first_fault, or_else, test, taken, number_of, place_of}
 use Rattle.files.specs.declared.Refusal.{Refusal}
 use Rattle.files.specs.Reading.{Reading}
-use Rattle.std.specs.Prelude.{Ok, Err, ⊤}
+use Rattle.std.specs.Prelude.{Result, Ok, Err, ⊤}
 use Rattle.files.proofs.Each.{each_split, length_each, getD_each}
 use Rattle.files.proofs.Tests.{passed, refutes}
 
@@ -182,3 +185,40 @@ module _ (number : ℕ) (some : 0 < number) (n n' : ℕ) (faults : List ℕ) whe
         | yes same ↦ same
         | no other ↦ absurd (refused_not number 0 (sym (counts_differ other) ∙ e))
       ]
+
+-- no fault has the number 0
+pub some_fault : (fault : Fault) → fault_number fault ≡ 0 → ⊥
+some_fault Length e = omega arith
+some_fault Mark e = omega arith
+some_fault Count e = omega arith
+some_fault Kind e = omega arith
+some_fault Species e = omega arith
+some_fault Section e = omega arith
+some_fault Range e = omega arith
+some_fault Unused e = omega arith
+some_fault NoSurvey e = omega arith
+some_fault NoVehicle e = omega arith
+some_fault NoPlace e = omega arith
+some_fault NoRoom e = omega arith
+some_fault Order e = omega arith
+some_fault Sequence e = omega arith
+some_fault Weight e = omega arith
+some_fault Disagreement e = omega arith
+some_fault Apart e = omega arith
+some_fault Gauge e = omega arith
+
+-- what has a fault has its number, and what has none has 0
+pub fault_clear : {a : Result ⊤ Fault} {n : ℕ} → a ≡ Ok tt → fault_of a ≡ n → n ≡ 0
+fault_clear e h = sym h ∙ ap fault_of e
+
+pub fault_found : {a : Result ⊤ Fault} {n : ℕ} (fault : Fault) → a ≡ Err fault → fault_of a ≡ n → n ≡ fault_number fault
+fault_found fault e h = sym h ∙ ap fault_of e
+
+-- what is taken was read, and what was refused is refused
+pub taken_ok : {A : Type 0} (a : Reading) (x y : A) → taken a x ≡ Ok y → (a ≡ Ok tt) × (x ≡ y)
+taken_ok (Ok tt) x y e = (refl, cc e)
+taken_ok (Err r) x y e = cc e
+
+pub taken_err : {A : Type 0} (a : Reading) (x : A) (r : Refusal) → taken a x ≡ Err r → a ≡ Err r
+taken_err (Ok tt) x r e = cc e
+taken_err (Err q) x r e = cc e

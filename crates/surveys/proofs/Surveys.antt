@@ -1,6 +1,6 @@
 -- Reading a survey, beside what the document allows: a file is taken exactly when it is allowed, the survey then holds the
 -- file's numbers, and a refusal has its number and its place.
-use Rattle.std.specs.Prelude.{Ok, Err}
+use Rattle.std.specs.Prelude.{Result, Ok, Err}
 use Prim.Native.Nat.{ℕ, zero, suc, ◌+◌, ◌-◌, ◌*◌, ◌≤◌, ◌<◌}
 use mathlib.Core.Path.{◌≡◌, refl, ap, sym, ◌∙◌}
 use mathlib.Core.List.{List, ◌∷◌}
@@ -13,7 +13,7 @@ use Rattle.member.specs.Blank.{blank_member, blank_survey}
 use Rattle.member.specs.Fields.{MOST_MEMBERS, FIELDS, field}
 use Rattle.member.specs.Format.{◌‥◌, In, AllowedMember}
 use Rattle.files.specs.Words.{word_at}
-use Rattle.files.specs.Reading.{Reading, first_fault, or_else}
+use Rattle.files.specs.Reading.{Reading, first_fault, or_else, taken}
 use Rattle.surveys.specs.SurveyFile.{SURVEY_HEADER, RECORD, SURVEY_VERSIONS, count_of, record_at, survey_header, member_fault, record_faults, sequence_fault, sequence_answer, survey_answer, survey_of, survey_by, read_survey}
 use Rattle.surveys.specs.Allowed.{AllowedSurveyFile}
 use Rattle.files.specs.Refused.{Headed}
@@ -26,10 +26,14 @@ use Rattle.files.proofs.Headers.{headed, header_clear, header_named, header_is, 
 use Rattle.surveys.proofs.Sequences.{record_field, fault_given, fault_read, sequence_read, sequence_given, sequence_first, sequence_refused}
 use Rattle.surveys.proofs.Refusals.{clear_allowed, allowed_clear, member_named, member_is, member_number}
 
--- the reading is its answer with the survey that belongs to it
-pub read_as : (bytes : List ℕ) (answer : Reading) (survey : Survey) → answer ≡ survey_answer bytes → survey ≡ survey_by answer bytes → ◌≡◌ {A = SurveyRead} (record { answer = answer; survey = survey }) (read_survey bytes)
+-- what is read: the survey where the tests find nothing, else their refusal
+pub read_ok : (bytes : List ℕ) → survey_answer bytes ≡ Ok tt → ◌≡◌ {A = Result Survey Refusal} (Ok (survey_of bytes)) (taken (read_survey bytes).answer (read_survey bytes).survey)
 unfolding read_survey
-read_as bytes answer survey a s = rw (s, a)
+read_ok bytes e = rw e
+
+pub read_err : (bytes : List ℕ) (r : Refusal) → survey_answer bytes ≡ Err r → ◌≡◌ {A = Result Survey Refusal} (Err r) (taken (read_survey bytes).answer (read_survey bytes).survey)
+unfolding read_survey
+read_err bytes r e = rw e
 
 module _ (bytes : List ℕ) where
   -- the answer for header and records, before their order
@@ -53,6 +57,13 @@ module _ (bytes : List ℕ) where
   pub headed_clear : survey_header bytes ≡ 0 → survey_answer bytes ≡ or_else (first_fault 1 (record_faults bytes (count_of bytes))) (sequence_answer bytes (count_of bytes))
   unfolding survey_answer
   headed_clear e = rw (head_clear 0 (survey_header bytes) (record_faults bytes (count_of bytes)) e)
+
+  -- behind a good header a record's fault is the answer, and where no record has one their order is
+  pub records_first : (r : Refusal) → survey_header bytes ≡ 0 → first_fault 1 (record_faults bytes (count_of bytes)) ≡ Err r → survey_answer bytes ≡ Err r
+  records_first r clear e = headed_clear clear ∙ ap (λ (a : Reading). or_else a (sequence_answer bytes (count_of bytes))) e
+
+  pub order_last : survey_header bytes ≡ 0 → first_fault 1 (record_faults bytes (count_of bytes)) ≡ Ok tt → survey_answer bytes ≡ sequence_answer bytes (count_of bytes)
+  order_last clear e = headed_clear clear ∙ ap (λ (a : Reading). or_else a (sequence_answer bytes (count_of bytes))) e
 
   survey_clear : HeadedSurvey → survey_header bytes ≡ 0
   survey_clear = header_clear 82 SURVEY_VERSIONS SURVEY_HEADER MOST_MEMBERS RECORD bytes (omega arith)

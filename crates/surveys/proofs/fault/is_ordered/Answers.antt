@@ -1,9 +1,12 @@
 -- `is_ordered` meets its contract: the two tests, as the definition has them.
--- Assumes nothing.
-use mathlib.Core.Path.{refl}
+use borrow.Author.Tests.{eq-eqb, ne_eqb}
 use Rattle.surveys.specs.SurveyFile.{ordered}
 use Rattle.surveys.proofs.fault.is_ordered.Goals as goal
 
-pub returns : goal.returns
+pub returns-then-m-eq-CLOSE_STRINGER : goal.returns-then-m-eq-CLOSE_STRINGER
 unfolding ordered
-returns c = refl
+returns-then-m-eq-CLOSE_STRINGER c = rw (eq-eqb _ _ c.if-m-eq-CLOSE_STRINGER.true)
+
+pub returns-else-m-eq-CLOSE_STRINGER : goal.returns-else-m-eq-CLOSE_STRINGER
+unfolding ordered
+returns-else-m-eq-CLOSE_STRINGER c = rw (ne_eqb _ _ c.if-m-eq-CLOSE_STRINGER.false)

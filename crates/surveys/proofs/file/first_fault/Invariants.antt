@@ -1,7 +1,6 @@
 -- `first_fault` meets its contract. The records' invariant: none of the first i records has a fault. The fields' invariant: of
 -- the first f fields the unused ones are 0, and `good` says whether the used ones are in range and A is at most B.
 use Rattle.std.specs.Prelude.{Ok, Err}
-use Prim.Native.Nat.{◌-◌, ◌≤◌}
 use mathlib.Core.Path.{◌≡◌}
 use mathlib.Core.Bool.{true}
 use Rattle.member.specs.Fields.{FIELDS}
@@ -13,13 +12,7 @@ use Rattle.surveys.proofs.Members.{ranged}
 use Rattle.surveys.proofs.file.first_fault.Given as goal
 
 abbrev pub invariant-loop-f : goal.invariant-loop-f
-invariant-loop-f l = (l.f ≤ FIELDS) × (l.answer ≡ (Ok tt)) × (all (zeroed l.m) l.f ≡ true) × (l.good ≡ ranged l.m l.f)
-
-abbrev pub decreases-loop-f : goal.decreases-loop-f
-decreases-loop-f l = FIELDS - l.f
+invariant-loop-f l = (l.answer ≡ Ok tt) × (all (zeroed l.m) l.f ≡ true) × (l.good ≡ ranged l.m l.f)
 
 abbrev pub invariant-records : goal.invariant-records
-invariant-records l = (l.i ≤ l.count) × (l.answer ≡ (Ok tt)) × (first_fault 1 (each (λ i. member_fault (record_at l.bytes i)) l.i) ≡ (Ok tt))
-
-abbrev pub decreases-records : goal.decreases-records
-decreases-records l = l.count - l.i
+invariant-records l = (l.answer ≡ Ok tt) × (first_fault 1 (each (λ i. member_fault (record_at l.bytes i)) l.i) ≡ Ok tt)

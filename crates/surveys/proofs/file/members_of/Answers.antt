@@ -7,16 +7,13 @@ use Rattle.surveys.specs.SurveyFile.{record_at}
 use Rattle.files.proofs.Each.{store_each}
 use Rattle.surveys.proofs.file.members_of.Goals as goal
 
-pub blank_member-blank-requires : goal.blank_member-blank-requires
-blank_member-blank-requires c = tt
-
 pub loop-i-init : goal.loop-i-init
-loop-i-init c = (omega arith, rw c.blank_member-blank.ensures)
+loop-i-init c = rw c.blank_member-members.ensures
 
 pub loop-i-preserved : goal.loop-i-preserved
 loop-i-preserved c =
     let i = c.loop-i.i in
-    (omega arith, rw (c.loop-i.invariant.1, c.record_at-m.ensures) (store_each (record_at c.args.bytes.now) MOST_MEMBERS i blank_member (omega arith)))
+    rw (c.loop-i.invariant, c.record_at.ensures) (store_each (record_at c.args.bytes.now) MOST_MEMBERS i blank_member (omega arith))
 
 pub returns : goal.returns
-returns c = let e : c.loop-i.i ≡ c.args.count = omega arith in rw e at c.loop-i.invariant.1
+returns c = let e : c.loop-i.i ≡ c.args.count = omega arith in rw e at c.loop-i.invariant

@@ -1,5 +1,5 @@
 -- `members_of` meets its contract. The invariant: the array holds the first i records, and blank ones after them.
-use Prim.Native.Nat.{◌-◌, ◌≤◌}
+use Prim.Native.Nat.{◌-◌}
 use mathlib.Core.Path.{◌≡◌}
 use mathlib.Core.List.{◌++◌}
 use lib.ListN.{replicate}
@@ -10,7 +10,4 @@ use Rattle.surveys.specs.SurveyFile.{record_at}
 use Rattle.surveys.proofs.file.members_of.Given as goal
 
 abbrev pub invariant-loop-i : goal.invariant-loop-i
-invariant-loop-i l = (l.i ≤ l.count) × (l.members ≡ each (record_at l.bytes) l.i ++ replicate (MOST_MEMBERS - l.i) blank_member)
-
-abbrev pub decreases-loop-i : goal.decreases-loop-i
-decreases-loop-i l = l.count - l.i
+invariant-loop-i l = l.members ≡ each (record_at l.bytes) l.i ++ replicate (MOST_MEMBERS - l.i) blank_member

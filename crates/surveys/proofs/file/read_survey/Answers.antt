@@ -1,40 +1,60 @@
--- `read_survey` meets its contract: a fault of the header is the answer, else that of the records and their order is, and the survey is
--- the one that belongs to the answer.
-use mathlib.Core.Path.{sym, ◌∙◌}
+-- `read_survey` meets its contract: a fault of the header is the answer, else that of the records and their order is.
+use mathlib.Core.Path.{◌≡◌, sym, ◌∙◌}
 use native.Mathlib.Omega.{arith}
-use Rattle.surveys.proofs.Surveys.{headed_survey, headed_first, headed_clear, read_as}
+use Rattle.std.specs.Prelude.{Ok}
+use Rattle.std.proofs.lemmas.Result.{err_from_is_err_and}
+use Rattle.files.specs.Reading.{first_fault}
+use Rattle.files.proofs.Faults.{some_fault, fault_clear, fault_found}
+use Rattle.surveys.specs.SurveyFile.{count_of, survey_header, record_faults}
+use Rattle.surveys.proofs.Surveys.{headed_survey, headed_first, records_first, order_last, read_ok, read_err}
 use Rattle.surveys.proofs.file.read_survey.Goals as goal
+use Rattle.surveys.proofs.file.read_survey.Goals.{In_ok-header_fault, After-count_of-count, In_ok-first_fault}
 
-pub returns-then-number-ne0 : goal.returns-then-number-ne0
-returns-then-number-ne0 c =
-    let b = c.args.bytes.now in
-    let e = c.refused.ensures.0 ∙ sym (headed_first b _ (sym c.header_fault-number.ensures) c.if-number-ne0.true) in
-    read_as b c.refused.result.answer c.refused.result.survey e (rw c.refused.ensures.0 c.refused.ensures.1)
+pub returns-in_err-header_fault : goal.returns-in_err-header_fault
+returns-in_err-header_fault c =
+    let p = err_from_is_err_and c.from_residual.result c.from_residual.ensures.1 in
+    let found = fault_found _ c.in_err-header_fault.was c.header_fault.ensures in
+    rw (p.1, p.2) (read_err _ _ (headed_first _ _ found (some_fault _)))
+
+clear : (c : In_ok-header_fault) → survey_header c.args.bytes.now ≡ 0
+clear c = fault_clear c.in_ok-header_fault.was c.header_fault.ensures
 
 pub count_of-count-requires : goal.count_of-count-requires
-count_of-count-requires c = let h = headed_survey c.args.bytes.now (sym c.header_fault-number.ensures ∙ c.if-number-ne0.false) in omega (arith, h.sized)
+count_of-count-requires c = let h = headed_survey _ (clear (goal.at.count_of-count-requires c).In_ok-header_fault) in omega (arith, h.sized)
 
-pub records_answer-answer-requires : goal.records_answer-answer-requires
-records_answer-answer-requires c = let h = headed_survey c.args.bytes.now (sym c.header_fault-number.ensures ∙ c.if-number-ne0.false) in omega (arith, h.sized, c.count_of-count.ensures.0)
+pub first_fault-requires : goal.first_fault-requires
+first_fault-requires c =
+    let h = headed_survey _ (clear (goal.at.first_fault-requires c).In_ok-header_fault) in
+    omega (arith, h.sized, c.count_of-count.ensures.0)
 
-pub members_of-members-requires : goal.members_of-members-requires
-members_of-members-requires c =
-    let h = headed_survey c.args.bytes.now (sym c.header_fault-number.ensures ∙ c.if-number-ne0.false) in
-    let w = c.count_of-count.ensures.0 in
-    (omega (arith, h.count, w), omega (arith, h.sized, w))
+pub returns-in_err-first_fault : goal.returns-in_err-first_fault
+returns-in_err-first_fault c =
+    let p = err_from_is_err_and c.from_residual-in_err-first_fault.result c.from_residual-in_err-first_fault.ensures.1 in
+    let found = rw c.count_of-count.ensures.0 at c.first_fault.ensures in
+    rw (p.1, p.2) (read_err _ _ (records_first _ _ (clear (goal.at.returns-in_err-first_fault c).In_ok-header_fault) (sym found ∙ c.in_err-first_fault.was)))
 
-pub returns-in-Ok : goal.returns-in-Ok
-returns-in-Ok c =
-    let w = c in
-    let b = w.args.bytes.now in
-    let clear = sym w.header_fault-number.ensures ∙ w.if-number-ne0.false in
-    let e = rw w.count_of-count.ensures.0 at c.records_answer-answer.ensures in
-    read_as b c.records_answer-answer.result _ (e ∙ sym (headed_clear b clear)) (rw (c.in-Ok.is, c.members_of-members.ensures, w.count_of-count.ensures.0))
+pub sequence_answer-requires : goal.sequence_answer-requires
+sequence_answer-requires c =
+    let h = headed_survey _ (clear (goal.at.sequence_answer-requires c).In_ok-header_fault) in
+    (omega (arith, h.count, c.count_of-count.ensures.0), omega (arith, h.sized, c.count_of-count.ensures.0))
 
-pub returns-in-Err : goal.returns-in-Err
-returns-in-Err c =
-    let w = c in
-    let b = w.args.bytes.now in
-    let clear = sym w.header_fault-number.ensures ∙ w.if-number-ne0.false in
-    let e = rw w.count_of-count.ensures.0 at c.records_answer-answer.ensures in
-    read_as b c.refused-in-Err.result.answer c.refused-in-Err.result.survey (c.refused-in-Err.ensures.0 ∙ e ∙ sym (headed_clear b clear)) (rw (c.refused-in-Err.ensures.0, c.in-Err.is) c.refused-in-Err.ensures.1)
+none : (c : In_ok-first_fault) → first_fault 1 (record_faults c.args.bytes.now (count_of c.args.bytes.now)) ≡ Ok tt
+none c = let found = rw c.count_of-count.ensures.0 at c.first_fault.ensures in sym found ∙ c.in_ok-first_fault.was
+
+pub returns-in_err-sequence_answer : goal.returns-in_err-sequence_answer
+returns-in_err-sequence_answer c =
+    let at = goal.at.returns-in_err-sequence_answer c in
+    let p = err_from_is_err_and c.from_residual-in_err-sequence_answer.result c.from_residual-in_err-sequence_answer.ensures.1 in
+    let found = rw c.count_of-count.ensures.0 at c.sequence_answer.ensures in
+    rw (p.1, p.2) (read_err _ _ (order_last _ (clear at.In_ok-header_fault) (none at.In_ok-first_fault) ∙ sym found ∙ c.in_err-sequence_answer.was))
+
+pub members_of-requires : goal.members_of-requires
+members_of-requires c =
+    let h = headed_survey _ (clear (goal.at.members_of-requires c).In_ok-header_fault) in
+    (omega (arith, h.count, c.count_of-count.ensures.0), omega (arith, h.sized, c.count_of-count.ensures.0))
+
+pub returns : goal.returns
+returns c =
+    let at = goal.at.returns c in
+    let found = rw c.count_of-count.ensures.0 at c.sequence_answer.ensures in
+    rw (c.members_of.ensures, c.count_of-count.ensures.0) (read_ok _ (order_last _ (clear at.In_ok-header_fault) (none at.In_ok-first_fault) ∙ sym found ∙ c.in_ok-sequence_answer.was))

@@ -10,14 +10,11 @@ returns-then-kind-kind_ahead c = decides KIND _ _ c.field_at-kind.ensures c.fiel
 
 pub returns-then-span-span_ahead : goal.returns-then-span-span_ahead
 returns-then-span-span_ahead c =
-    let k = c in
     decides SPAN _ _ c.field_at-span.ensures c.field_at-span_ahead.ensures (SPACING ∷ []) c.if-span-span_ahead.true ∙
-    alike KIND _ _ k.field_at-kind.ensures k.field_at-kind_ahead.ensures (SPAN ∷ SPACING ∷ []) k.if-kind-kind_ahead.false
+    alike KIND _ _ c.field_at-kind.ensures c.field_at-kind_ahead.ensures (SPAN ∷ SPACING ∷ []) c.if-kind-kind_ahead.false
 
 pub returns : goal.returns
 returns c =
-    let s = c in
-    let k = s in
-    last_decides SPACING _ _ c.field_at-spacing.ensures c.field_at-spacing_ahead.ensures ∙
-    alike SPAN _ _ s.field_at-span.ensures s.field_at-span_ahead.ensures (SPACING ∷ []) s.if-span-span_ahead.false ∙
-    alike KIND _ _ k.field_at-kind.ensures k.field_at-kind_ahead.ensures (SPAN ∷ SPACING ∷ []) k.if-kind-kind_ahead.false
+    last_decides SPACING _ _ c.field_at.ensures c.field_at-2.ensures ∙
+    alike SPAN _ _ c.field_at-span.ensures c.field_at-span_ahead.ensures (SPACING ∷ []) c.if-span-span_ahead.false ∙
+    alike KIND _ _ c.field_at-kind.ensures c.field_at-kind_ahead.ensures (SPAN ∷ SPACING ∷ []) c.if-kind-kind_ahead.false

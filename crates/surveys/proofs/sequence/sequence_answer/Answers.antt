@@ -20,28 +20,25 @@ ordered c = omega (arith, c.word_at.ensures)
 
 pub loop-i-init : goal.loop-i-init
 unfolding sequence_fault
-loop-i-init c = (omega arith, omega arith, refl, refl)
+loop-i-init c = (omega arith, refl)
 
 pub is_before-requires : goal.is_before-requires
 is_before-requires c = (omega arith, omega arith)
 
 pub loop-i-preserved : goal.loop-i-preserved
 loop-i-preserved c =
-    let l = c in
-    let inv = l.loop-i.invariant in
-    let good = fault_is _ l.loop-i.i inv.0 c.is_before.ensures ∙ ap (λ (b : Bool). 16 unless not b) c.if-is_before.false in
-    (omega arith, omega arith, inv.2, clear_more (sequence_fault _) 1 l.loop-i.i inv.3 good)
+    let inv = c.loop-i.invariant in
+    let good = fault_is _ c.loop-i.i inv.0 c.is_before.ensures ∙ ap (λ (b : Bool). 16 unless not b) c.if-is_before.false in
+    (omega arith, clear_more (sequence_fault _) 1 c.loop-i.i inv.1 good)
 
-pub returns-after-loop-i : goal.returns-after-loop-i
-returns-after-loop-i c =
-    let l = c in
-    let ended : l.loop-i.i ≡ l.args.count = omega arith in
-    l.loop-i.invariant.2 ∙ sym (rw ended at l.loop-i.invariant.3) ∙ sym (ordered_version _ _ (ordered (goal.at.returns-after-loop-i c).Else-word_at-lt-SEQUENCE_FROM))
+pub returns : goal.returns
+returns c =
+    let ended : c.loop-i.i ≡ c.args.count = omega arith in
+    sym (rw ended at c.loop-i.invariant.1) ∙ sym (ordered_version _ _ (ordered (goal.at.returns c).Else-word_at-lt-SEQUENCE_FROM))
 
 pub returns-then-is_before : goal.returns-then-is_before
 returns-then-is_before c =
-    let l = c in
-    let inv = l.loop-i.invariant in
-    let bad = fault_is _ l.loop-i.i inv.0 c.is_before.ensures ∙ ap (λ (b : Bool). 16 unless not b) c.if-is_before.true in
-    let count = l.args.count in
-    sym (ordered_version _ count (ordered (goal.at.returns-then-is_before c).Else-word_at-lt-SEQUENCE_FROM) ∙ fault_at (sequence_fault _) 1 l.loop-i.i count 16 (omega arith) inv.3 bad (omega arith))
+    let inv = c.loop-i.invariant in
+    let bad = fault_is _ c.loop-i.i inv.0 c.is_before.ensures ∙ ap (λ (b : Bool). 16 unless not b) c.if-is_before.true in
+    let count = c.args.count in
+    rw c.at.ensures (sym (ordered_version _ count (ordered (goal.at.returns-then-is_before c).Else-word_at-lt-SEQUENCE_FROM) ∙ fault_at (sequence_fault _) 1 c.loop-i.i count 16 (omega arith) inv.1 bad (omega arith)))

@@ -1,6 +1,6 @@
 -- `sequence_answer` meets its contract. The loop's invariant: none of the first i records stands before its predecessor.
 use Rattle.std.specs.Prelude.{Ok, Err}
-use Prim.Native.Nat.{◌-◌, ◌≤◌}
+use Prim.Native.Nat.{◌≤◌}
 use mathlib.Core.Path.{◌≡◌}
 use Rattle.files.specs.Reading.{first_fault}
 use Rattle.surveys.specs.SurveyFile.{sequence_fault}
@@ -8,7 +8,4 @@ use Rattle.files.specs.Words.{each}
 use Rattle.surveys.proofs.sequence.sequence_answer.Given as goal
 
 abbrev pub invariant-loop-i : goal.invariant-loop-i
-invariant-loop-i l = (1 ≤ l.i) × (l.i ≤ l.count) × (l.answer ≡ (Ok tt)) × (first_fault 1 (each (sequence_fault l.bytes) l.i) ≡ (Ok tt))
-
-abbrev pub decreases-loop-i : goal.decreases-loop-i
-decreases-loop-i l = l.count - l.i
+invariant-loop-i l = (1 ≤ l.i) × (first_fault 1 (each (sequence_fault l.bytes) l.i) ≡ Ok tt)
