@@ -11,7 +11,7 @@ use Rattle.files.specs.Answer.{Answer, Values, WithMargin, WithDeflection, Refus
 use Rattle.files.specs.Words.{in_row}
 use Rattle.files.specs.Writing.{answer_by, bytes_by, onto}
 use Rattle.files.specs.Reading.{Reading}
-use Rattle.std.specs.Prelude.{Ok, Err, ⊤}
+use Rattle.std.specs.Prelude.{Ok, Err}
 
 -- what is put behind what was put
 pub paste_behind : (row : List ℕ) (at : ℕ) (a b : List ℕ) (n m : ℕ) → at ≤ length row → length a ≡ n → length b ≡ m →

@@ -1,6 +1,6 @@
 -- A call that writes bytes into a lent output. Document 02, requests 9/13 and 10/13: "The number of bytes written comes back, bytes beyond are
 -- kept, a refusal writes nothing".
-use Rattle.std.specs.Prelude.{ℕ, List, [], ◌∷◌, ◌++◌, length, drop, Result, Ok, Err, ⊤}
+use Rattle.std.specs.Prelude.{ℕ, List, [], ◌∷◌, ◌++◌, length, drop, Result, Ok, Err}
 use Rattle.files.specs.Answer.{Answer, Values, refused_by}
 use Rattle.files.specs.Reading.{Reading}
 use Rattle.files.specs.declared.Refusal.{Refusal}

@@ -9,6 +9,7 @@ use crate::limits::Limits;
 use crate::words::word_at;
 
 // The letters TB and a third one, and one of the versions.
+#[tactic(auto, unfolding(crate::specs::Header::marked))]
 fn is_marked(bytes: &[u8], letter: u8, versions: Limits) -> bool
     requires { 5 ≤ length bytes.now }
     ensures { result ≡ marked bytes.now letter (versions.low ‥ versions.high) }
@@ -18,6 +19,7 @@ fn is_marked(bytes: &[u8], letter: u8, versions: Limits) -> bool
 }
 
 // Length where the file is shorter than the header, mark or version, count of records, length.
+#[tactic(auto, unfolding(crate::specs::Header::header_fault))]
 pub fn header_fault(
     bytes: &[u8],
     letter: u8,

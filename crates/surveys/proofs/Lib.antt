@@ -1,5 +1,4 @@
 -- Cited by other crates: `Surveys`, with the laws of its parts.
-mod Tables
 pub mod Members
 mod Sequences
 mod OneOrder

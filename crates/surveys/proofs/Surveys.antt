@@ -14,12 +14,11 @@ use Rattle.member.specs.Fields.{MOST_MEMBERS, FIELDS, field}
 use Rattle.member.specs.Format.{◌‥◌, In, AllowedMember}
 use Rattle.files.specs.Words.{word_at}
 use Rattle.files.specs.Reading.{Reading, first_fault, or_else, taken}
-use Rattle.surveys.specs.SurveyFile.{SURVEY_HEADER, RECORD, SURVEY_VERSIONS, count_of, record_at, survey_header, member_fault, record_faults, sequence_fault, sequence_answer, survey_answer, survey_of, survey_by, read_survey}
+use Rattle.surveys.specs.SurveyFile.{SURVEY_HEADER, RECORD, SURVEY_VERSIONS, count_of, record_at, survey_header, member_fault, record_faults, sequence_fault, sequence_answer, survey_answer, survey_of, read_survey}
 use Rattle.surveys.specs.Allowed.{AllowedSurveyFile}
 use Rattle.files.specs.Refused.{Headed}
 use Rattle.surveys.specs.Refused.{FirstRecord, SurveyRefusal}
 use Rattle.files.specs.declared.Refusal.{Refusal}
-use Rattle.surveys.specs.SurveyFile.{SurveyRead}
 use Rattle.files.proofs.Each.{length_each, getD_each, getD_padded}
 use Rattle.files.proofs.Faults.{refusal, reading_case, both_taken, one_refused, head_first, head_clear, fault_at, taken_none, none_taken, FaultAt, refused_at}
 use Rattle.files.proofs.Headers.{headed, header_clear, header_named, header_is, header_number}

@@ -2,7 +2,7 @@
 -- old files read as before. A file of more than 64 records, once refusal 3, is taken where it is otherwise good, and else gets its own refusal; a
 -- count of 0 still gives 3." The limit is MOST-MEMBERS (member/specs/Fields.antt), and that the byte holds it in member/specs/Counts.antt.
 use Rattle.files.specs.Reading.{Reading}
-use Rattle.std.specs.Prelude.{ℕ, ◌≤◌, ◌<◌, ◌≡◌, List, length, Ok, Err}
+use Rattle.std.specs.Prelude.{ℕ, ◌≤◌, ◌<◌, ◌≡◌, List, length, Err}
 use Rattle.files.specs.Words.{Bytes}
 use Rattle.files.specs.Header.{header_fault}
 use Rattle.files.specs.Refused.{Marked}

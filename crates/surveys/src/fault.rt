@@ -15,6 +15,7 @@ const ALL_SPECIES: Limits = Limits { low: 1, high: 8 };
 
 // The species is one of the list where the record uses it: `is_within` of that field, apart from it so that the loop over the
 // fields keeps the only call of `is_within` and can take it in.
+#[tactic(auto, unfolding(crate::specs::SurveyFile::within, member::specs::Format::range_of, member::specs::Format::ranges))]
 fn species_within(m: Member) -> bool
     ensures { result ≡ within m SPECIES }
 {
@@ -23,6 +24,7 @@ fn species_within(m: Member) -> bool
 }
 
 // The kind; the species, where used; the section's code, which must suit the kind.
+#[tactic(auto, unfolding(crate::specs::SurveyFile::code_fault))]
 pub fn code_fault(m: Member) -> Result<(), Fault>
     ensures { fault_of result ≡ code_fault m }
 {
@@ -40,6 +42,7 @@ pub fn code_fault(m: Member) -> Result<(), Fault>
 }
 
 // A is at most B; of closely spaced stringers, whose board width and deck rot they are, it need not be.
+#[tactic(auto, unfolding(crate::specs::SurveyFile::ordered))]
 pub fn is_ordered(m: Member) -> bool
     ensures { result ≡ ordered m }
 {
@@ -47,6 +50,7 @@ pub fn is_ordered(m: Member) -> bool
 }
 
 // The field is 0 where the record does not use it.
+#[tactic(auto, unfolding(crate::specs::SurveyFile::zeroed))]
 pub fn is_zeroed(m: Member, f: usize) -> bool
     requires { f < FIELDS }
     ensures { result ≡ zeroed m f }
@@ -55,6 +59,7 @@ pub fn is_zeroed(m: Member, f: usize) -> bool
 }
 
 // The field is in its range where the record uses it.
+#[tactic(auto, unfolding(crate::specs::SurveyFile::within))]
 pub fn is_within(m: Member, f: usize) -> bool
     requires { f < FIELDS }
     ensures { result ≡ within m f }

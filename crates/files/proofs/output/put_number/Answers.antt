@@ -4,7 +4,7 @@ use mathlib.Core.Path.{◌≡◌}
 use native.Mathlib.Numerals.{add-one}
 use native.Mathlib.Omega.{arith}
 use lib.ListN.{length}
-use lib.Seq.{paste-zero, paste-suc, length-paste}
+use lib.Seq.{paste-zero, paste-suc}
 use Rattle.files.specs.Words.{bytes_of}
 use Rattle.files.proofs.Numbers.{length_bytes, next_byte}
 use Rattle.files.proofs.output.put_number.Goals as goal

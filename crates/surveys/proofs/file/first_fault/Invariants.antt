@@ -1,9 +1,8 @@
 -- `first_fault` meets its contract. The records' invariant: none of the first i records has a fault. The fields' invariant: of
 -- the first f fields the unused ones are 0, and `good` says whether the used ones are in range and A is at most B.
-use Rattle.std.specs.Prelude.{Ok, Err}
+use Rattle.std.specs.Prelude.{Ok}
 use mathlib.Core.Path.{◌≡◌}
 use mathlib.Core.Bool.{true}
-use Rattle.member.specs.Fields.{FIELDS}
 use Rattle.files.specs.Words.{each}
 use Rattle.section.specs.Choose.{all}
 use Rattle.files.specs.Reading.{first_fault}

@@ -1,5 +1,5 @@
 -- `sequence_answer` meets its contract. The loop's invariant: none of the first i records stands before its predecessor.
-use Rattle.std.specs.Prelude.{Ok, Err}
+use Rattle.std.specs.Prelude.{Ok}
 use Prim.Native.Nat.{◌≤◌}
 use mathlib.Core.Path.{◌≡◌}
 use Rattle.files.specs.Reading.{first_fault}
