@@ -23,7 +23,7 @@ use Rattle.files.proofs.Faults.{refusal, head_first}
 use Rattle.vehicles.proofs.Axles.{longest_axle}
 use Rattle.session.specs.Answers.{Outcome}
 use Rattle.session.specs.Calls.{new_session, load_survey, load_vehicle, load_files, and_then}
-use Rattle.session.specs.declared.Session.{Session}
+use Rattle.session.specs.Loaded.{Session}
 use Rattle.bridge.specs.Input.{ENOUGH, LoadedFrom, survey_length, survey_part, vehicle_part, load_input}
 
 then_same : (o : Outcome) (f g : Session → Outcome) → ((s : Session) → f s ≡ g s) → and_then o f ≡ and_then o g

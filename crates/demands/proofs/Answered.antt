@@ -5,7 +5,7 @@ use native.Mathlib.Nat.{add-sub_cancel}
 use native.Mathlib.Omega.{arith}
 use lib.ListN.{length}
 use Rattle.session.specs.Calls.{rate, judge, judge_list}
-use Rattle.session.specs.declared.Session.{Session}
+use Rattle.session.specs.Loaded.{Session}
 use Rattle.session.proofs.State.{rate_ready, judge_ready}
 use Rattle.demands.specs.Parts.{Answers}
 

@@ -28,7 +28,7 @@ use Rattle.couple.proofs.Vehicles.{padded_coupled, couples}
 use Rattle.session.specs.Answers.{Outcome}
 use Rattle.session.specs.Calls.{load_vehicle}
 use Rattle.session.specs.Coupling.{couple}
-use Rattle.session.specs.declared.Session.{Session}
+use Rattle.session.specs.Loaded.{Session}
 use Rattle.session.proofs.Loads.{vehicle_load, couple_read, couple_survey, couple_kept, couple_load, couple_refused}
 use Rattle.demands.specs.CoupleCall.{coupled_file, load_answered, PartOf, Taken, with_both, CoupleAnswered, CoupleTaken, CoupledLoads}
 use Rattle.demands.specs.Parts.{Answers}

@@ -57,7 +57,7 @@ use Rattle.demands.specs.Parts.{FromState, RefusedBoth, Answers, FilesAnswered, 
 use Rattle.demands.specs.GaugeCall.{no_survey as no-gauge-survey, no_vehicle as no-gauge-vehicle}
 use Rattle.demands.specs.History.{Call, LoadSurvey, TakesSurvey, TakesVehicle, NoneTakes, LastTakes, TakenLast, Holds, after}
 use Rattle.demands.specs.YardCall.{no_survey}
-use Rattle.session.specs.declared.Session.{Session}
+use Rattle.session.specs.Loaded.{Session}
 use Rattle.demands.proofs.History.{survey_stays, vehicle_stays, survey_last, last_held, held_coupled, LoadsSurvey, a_survey, LoadsVehicle, of_one, of_two, takes_survey, takes_vehicle, none_or_last, in_turn_lem, in_reverse, calls_valid}
 use Rattle.session.proofs.Loads.{no_refusal, never_both, stored_kept, survey_read, vehicle_read, survey_load, vehicle_load, survey_refused, vehicle_refused, other_survey}
 use Rattle.session.proofs.State.{valid_new, alone_taken, files_alone, no_survey_fault, no_vehicle_fault, no_place_fault}

@@ -23,7 +23,7 @@ use Rattle.gauge.proofs.Refusals.{passed_or_fault}
 use Rattle.session.specs.Answers.{RefusedAt, deflection_answer}
 use Rattle.session.specs.Calls.{members, rate_fault}
 use Rattle.session.specs.Gauging.{gauge}
-use Rattle.session.specs.declared.Session.{Session}
+use Rattle.session.specs.Loaded.{Session}
 use Rattle.session.proofs.Loads.{no_refusal}
 use Rattle.session.proofs.State.{rate_ready, no_survey_fault, no_vehicle_fault, no_place_fault}
 use Rattle.demands.specs.GaugeCall.{Measures, Placed, GaugeFault, no_survey, no_vehicle, no_place, wrong_readings, GaugeAnswered, GaugeTaken}

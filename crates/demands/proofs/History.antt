@@ -21,7 +21,7 @@ use Rattle.session.specs.Coupling.{couple}
 use Rattle.session.specs.Gauging.{gauge}
 use Rattle.session.specs.Readings.{judge_between}
 use Rattle.session.specs.Yard.{judge_yard}
-use Rattle.session.specs.declared.Session.{Session}
+use Rattle.session.specs.Loaded.{Session}
 use Rattle.session.proofs.Loads.{taken_or_not, stored_valid, survey_read, vehicle_read, survey_load, vehicle_load, survey_left, vehicle_left, other_survey, other_vehicle, couple_left, couple_survey, couple_valid}
 use Rattle.session.proofs.State.{valid_survey}
 

@@ -28,7 +28,7 @@ use Rattle.session.specs.Calls.{members, load_survey}
 use Rattle.demands.specs.Parts.{permitted_at, judgement_in}
 use Rattle.session.specs.Readings.{judge_between, bounds_list}
 use Rattle.demands.specs.ReadingsCall.{with, verdict_with, figure_with, Gives, lowest_at, highest_at, BetweenAnswered, BetweenFigures, BetweenTaken, WithinBounds, BetweenBounds}
-use Rattle.session.specs.declared.Session.{Session}
+use Rattle.session.specs.Loaded.{Session}
 use Rattle.session.proofs.Loads.{never_both, survey_read, survey_load}
 use Rattle.demands.proofs.Answered.{all_answers}
 

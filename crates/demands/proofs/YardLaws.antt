@@ -24,7 +24,7 @@ use Rattle.session.specs.Answers.{Answer, Outcome, Values, RefusedAt, refused_by
 use Rattle.session.specs.Calls.{Valid, members, load_vehicle, judge, unless_refused}
 use Rattle.session.specs.Yard.{Entry, alone, vehicle_answers, passing, first_refusal, front_tests, answered_yard, judge_yard, yard_list}
 use Rattle.demands.specs.YardCall.{file_at, entry_at, GoodBefore, Counted, YardFault, no_survey, no_count, wrong_count, faulty_vehicle, bytes_left, short_list, Passing, YardAnswered, YardFigures, YardTaken}
-use Rattle.session.specs.declared.Session.{Session}
+use Rattle.session.specs.Loaded.{Session}
 use Rattle.session.proofs.Loads.{never_both, vehicle_load}
 use Rattle.session.proofs.State as state
 use Rattle.demands.proofs.Answered.{all_answers}

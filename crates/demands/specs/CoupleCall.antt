@@ -12,7 +12,7 @@ use Rattle.couple.specs.Fault.{CoupleFault, MayBeCoupled}
 use Rattle.session.specs.Answers.{Values, RefusedAt, values_of}
 use Rattle.session.specs.Calls.{load_vehicle, rate}
 use Rattle.session.specs.Coupling.{couple}
-use Rattle.session.specs.declared.Session.{Session}
+use Rattle.session.specs.Loaded.{Session}
 use Rattle.demands.specs.Parts.{Answers, permitted_at, rating_at, judgement_in}
 
 -- the file of the coupled vehicle, in version 2, which holds every weight that a vehicle may have

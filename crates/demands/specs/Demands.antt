@@ -38,7 +38,7 @@ use Rattle.demands.specs.ReadingsCall.{Gives, BetweenAnswered, BetweenTaken, Bet
 use Rattle.session.specs.Yard.{Entry, judge_yard}
 use Rattle.demands.specs.YardCall.{YardAnswered, YardTaken}
 use Rattle.demands.specs.CoupleCall.{coupled_file, CoupleAnswered, CoupleTaken, CoupledLoads}
-use Rattle.session.specs.declared.Session.{Session}
+use Rattle.session.specs.Loaded.{Session}
 
 -- Demand 1. "Every call ends" is what the checker shows of every function that it accepts; the calls below are total.
 pub record Demand1 : Type 0 where

@@ -10,7 +10,7 @@ use Rattle.gauge.specs.declared.Readings.{Readings}
 use Rattle.session.specs.Answers.{RefusedAt, deflection_answer}
 use Rattle.session.specs.Calls.{members}
 use Rattle.session.specs.Gauging.{gauge}
-use Rattle.session.specs.declared.Session.{Session}
+use Rattle.session.specs.Loaded.{Session}
 
 -- a survey and a vehicle are loaded, and the place is one of the survey's
 pub record Placed (s : Session) (place : ℕ) : Type 0 where

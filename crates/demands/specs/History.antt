@@ -7,7 +7,7 @@ use Rattle.session.specs.Coupling.{couple}
 use Rattle.session.specs.Gauging.{gauge}
 use Rattle.session.specs.Readings.{judge_between}
 use Rattle.session.specs.Yard.{Entry, judge_yard}
-use Rattle.session.specs.declared.Session.{Session}
+use Rattle.session.specs.Loaded.{Session}
 
 -- "Load a survey, load a vehicle, rate one place, judge.", and document 02, requests 3/13, 5/13, 11/13 and 13/13
 pub data Call : Type 0 where

@@ -20,7 +20,7 @@ use Rattle.surveys.specs.SurveyFile.{count_of, record_at, records_of}
 use Rattle.vehicles.specs.VehicleFile.{vehicle_of}
 use Rattle.session.specs.Answers.{Answer, WithMargin, RefusedAt, rating_answer, judgement_answer}
 use Rattle.session.specs.Calls.{members, rate, judge, judge_list}
-use Rattle.session.specs.declared.Session.{Session}
+use Rattle.session.specs.Loaded.{Session}
 
 -- In a session: the permitted load, the vehicle load and the rating of the member of index i (its place less 1), and the bridge's
 -- judgement.

@@ -12,7 +12,7 @@ use Rattle.session.specs.Answers.{Values, RefusedAt, between_number}
 use Rattle.session.specs.Calls.{load_survey}
 use Rattle.demands.specs.Parts.{Answers, permitted_at, judgement_in}
 use Rattle.session.specs.Readings.{judge_between, bounds_list}
-use Rattle.session.specs.declared.Session.{Session}
+use Rattle.session.specs.Loaded.{Session}
 
 -- the session with a survey loaded: the vehicle stays
 abbrev pub with : Session → (survey : List ℕ) → Session

@@ -11,7 +11,7 @@ use Rattle.files.specs.declared.Refusal.{Refusal}
 use Rattle.session.specs.Answers.{Values, RefusedAt, judgement_answer}
 use Rattle.session.specs.Calls.{members, load_vehicle, judge}
 use Rattle.session.specs.Yard.{Entry, passing, judge_yard, yard_list}
-use Rattle.session.specs.declared.Session.{Session}
+use Rattle.session.specs.Loaded.{Session}
 
 -- the file of the vehicle of index i, from 0
 abbrev pub file_at : (yard : List ℕ) (i : ℕ) → List ℕ

@@ -14,7 +14,7 @@ use Rattle.session.specs.Answers.{Outcome, loaded, judged, judge_answer, refused
 use Rattle.session.specs.Calls.{load_files, judge, judge_list}
 use Rattle.session.specs.declared.AfterJudge.{AfterJudge}
 use Rattle.session.specs.declared.AfterLoad.{AfterLoad}
-use Rattle.session.specs.declared.Session.{Session}
+use Rattle.session.specs.Loaded.{Session}
 use Rattle.demands.proofs.Demands.{demand1, files_held}
 use Rattle.exports.specs.Loads.{loads_of, member_loads, member_list}
 use Rattle.exports.specs.declared.Loads.{Loads}

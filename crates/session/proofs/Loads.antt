@@ -22,7 +22,7 @@ use Rattle.couple.specs.Fault.{CoupleFault, MayBeCoupled}
 use Rattle.couple.proofs.Named.{fault_refused, coupled_read, taken_allowed}
 use Rattle.session.specs.Calls.{Valid, load_survey, load_vehicle, stored_survey, stored_vehicle}
 use Rattle.session.specs.Coupling.{couple}
-use Rattle.session.specs.declared.Session.{Session}
+use Rattle.session.specs.Loaded.{Session}
 use Rattle.session.proofs.State.{valid_with}
 
 -- two answers are never both

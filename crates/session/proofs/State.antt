@@ -2,7 +2,7 @@
 -- Assumes nothing.
 use Rattle.std.specs.Prelude.{Ok, Err}
 use Prim.Native.Nat.{ℕ, ◌-◌, ◌*◌, ◌≤◌, ◌<◌}
-use mathlib.Core.Path.{◌≡◌, refl}
+use mathlib.Core.Path.{◌≡◌, refl, sym, ◌∙◌}
 use mathlib.Core.Bool.{not}
 use mathlib.Core.List.{List, [], ◌∷◌}
 use native.Mathlib.Decide.{dec_le}
@@ -12,6 +12,7 @@ use lib.Dec.{eqb, leb}
 use lib.Seq.{get_or-take}
 use borrow.Author.Tests.{ne_eqb, le-leb, leb-true}
 use Rattle.member.specs.Format.{AllowedMember, AllowedVehicle, In, ◌‥◌}
+use Rattle.member.specs.declared.record.Member.{Member}
 use Rattle.member.specs.declared.record.Vehicle.{Vehicle}
 use Rattle.rating.specs.Judgement.{judgement_of}
 use Rattle.rating.specs.Surveyed.{AllowedSurvey, member_at}
@@ -19,17 +20,15 @@ use Rattle.files.specs.Reading.{◌unless◌, is_in}
 use Rattle.surveys.specs.SurveyFile.{read_survey}
 use Rattle.vehicles.specs.VehicleFile.{VEHICLE_VERSIONS, read_vehicle, blank_vehicle}
 use Rattle.files.specs.declared.Refusal.{Refusal}
-use Rattle.surveys.specs.SurveyFile.{SurveyRead}
-use Rattle.vehicles.specs.VehicleFile.{VehicleRead}
 use Rattle.files.proofs.Faults.{reading_case}
 use Rattle.files.proofs.Tests.{not_none, none, passed, in_range, range_in, refutes}
 use Rattle.vehicles.proofs.Vehicles.{taken_vehicle_allowed}
 use Rattle.between.proofs.Pairs.{taken_survey_allowed}
-use Rattle.session.specs.Answers.{loaded, refused_by, judgement_answer}
+use Rattle.session.specs.Answers.{Values, refused_by, judgement_answer}
 use Rattle.session.specs.Calls.{Valid, new_session, members, state_fault, rate_fault, judge_fault, load_survey, load_vehicle, judge, load_files, stored_vehicle, then_judge, judge_files}
 use Rattle.session.specs.Yard.{alone}
-use Rattle.session.specs.declared.AfterLoad.{AfterLoad}
-use Rattle.session.specs.declared.Session.{Session}
+use Rattle.session.specs.Place.{AtPlace, fault_at}
+use Rattle.session.specs.Loaded.{Session}
 
 -- a survey and a vehicle are loaded
 pub record Ready (members axles : ℕ) : Type 0 where
@@ -78,59 +77,52 @@ pub few_members : (s : Session) → Valid s → s.survey.count ≤ MOST_MEMBERS
 few_members s h = elim (dec_le s.survey.count 0) [ yes l ↦ omega arith | no l ↦ (h.survey (omega arith)).count.1 ]
 
 -- where rate's tests find no fault the place is of the survey, and the member there and the vehicle are allowed
-pub record AtPlace (s : Session) (place : ℕ) : Type 0 where
-  pub first : 1 ≤ place
-  pub index : place - 1 < MOST_MEMBERS
-  pub member : AllowedMember (member_at s.survey.members (place - 1))
-  pub vehicle : AllowedVehicle s.vehicle
-  pub used : member_at (members s) (place - 1) ≡ member_at s.survey.members (place - 1)
+module _ (s : Session) (place : ℕ) (valid : Valid s) (clear : fault_at s place ≡ 0) where
+  abbrev passed_tests : Ready s.survey.count s.vehicle.axles × (In (1 ‥ s.survey.count) place)
+  passed_tests = rate_clear s.survey.count s.vehicle.axles place clear
 
-pub at_place : (s : Session) (place : ℕ) → Valid s → rate_fault s.survey.count s.vehicle.axles place ≡ 0 → AtPlace s place
-at_place s place valid e =
-    let clear = rate_clear s.survey.count s.vehicle.axles place e in
-    let survey = valid.survey clear.0.survey in
-    let inside : place - 1 < s.survey.count = omega (arith, clear.1) in
-    record {
-      first = clear.1.0;
-      index = omega (arith, survey.count);
-      member = survey.members (place - 1) inside;
-      vehicle = valid.vehicle clear.0.vehicle;
-      used = get_or-take s.survey.count s.survey.members (place - 1) _ inside;
-    }
+  pub place_first : 1 ≤ place
+  place_first = passed_tests.1.0
 
--- a load by its answer: what was read, of a vehicle from one file or of two, is stored, or nothing is
-pub survey_stored : (s : Session) (bytes : List ℕ) (r : SurveyRead) → r ≡ read_survey bytes → r.answer ≡ (Ok tt) →
-    loaded (record { session = record { survey = r.survey; vehicle = s.vehicle }; answer = r.answer }) ≡ load_survey s bytes
-unfolding load_survey
-survey_stored s bytes r e t = rw (e, rw e at t)
+  survey_allowed : AllowedSurvey s.survey
+  survey_allowed = valid.survey passed_tests.0.survey
 
-pub survey_kept : (s : Session) (bytes : List ℕ) (r : SurveyRead) (f : Refusal) → r ≡ read_survey bytes → r.answer ≡ Err f →
-    loaded (record { session = s; answer = r.answer }) ≡ load_survey s bytes
-unfolding load_survey
-survey_kept s bytes r f e t = rw (e, rw e at t)
+  inside : place - 1 < s.survey.count
+  inside = omega (arith, passed_tests.1)
 
-pub vehicle_stored : (s : Session) (bytes : List ℕ) (r : VehicleRead) → r ≡ read_vehicle bytes → r.answer ≡ (Ok tt) →
-    loaded (record { session = record { survey = s.survey; vehicle = r.vehicle }; answer = r.answer }) ≡ load_vehicle s bytes
-unfolding load_vehicle
-vehicle_stored s bytes r e t = rw (e, rw e at t)
+  pub place_index : place - 1 < MOST_MEMBERS
+  place_index = omega (arith, inside, survey_allowed.count)
 
-pub vehicle_kept : (s : Session) (bytes : List ℕ) (r : VehicleRead) (f : Refusal) → r ≡ read_vehicle bytes → r.answer ≡ Err f →
-    loaded (record { session = s; answer = r.answer }) ≡ load_vehicle s bytes
-unfolding load_vehicle
-vehicle_kept s bytes r f e t = rw (e, rw e at t)
+  pub found_at : (m : Member) → m ≡ member_at s.survey.members (place - 1) → AtPlace s place m
+  found_at m e =
+      record {
+        clear = clear;
+        is = e ∙ sym (get_or-take s.survey.count s.survey.members (place - 1) _ inside);
+        member = rw e (survey_allowed.members (place - 1) inside);
+        vehicle = valid.vehicle passed_tests.0.vehicle;
+      }
+
+-- a load by its answer: what was read is stored, or nothing is
+module _ (s : Session) (bytes : List ℕ) where
+  pub survey_stored : (read_survey bytes).answer ≡ Ok tt →
+      load_survey s bytes ≡ record { session = record { survey = (read_survey bytes).survey; vehicle = s.vehicle }; answer = Values [] }
+  unfolding load_survey
+  survey_stored t = rw t
+
+  pub survey_kept : (f : Refusal) → (read_survey bytes).answer ≡ Err f → load_survey s bytes ≡ record { session = s; answer = refused_by f }
+  unfolding load_survey
+  survey_kept f t = rw t
 
 -- both loads, by the answer of the first
 module _ (survey vehicle : List ℕ) where
-  pub first_refused : (o : AfterLoad) (f : Refusal) → loaded o ≡ load_survey new_session survey → o.answer ≡ Err f →
-      loaded o ≡ load_files survey vehicle
-  unfolding load_files
-  first_refused o f e t = rw (← e, t)
+  pub first_refused : (f : Refusal) → (read_survey survey).answer ≡ Err f → load_files survey vehicle ≡ record { session = new_session; answer = refused_by f }
+  unfolding load_files load_survey
+  first_refused f t = rw t
 
-  pub second_loaded : (o p : AfterLoad) → loaded o ≡ load_survey new_session survey → o.answer ≡ (Ok tt) →
-      loaded p ≡ load_vehicle o.session vehicle →
-      loaded p ≡ load_files survey vehicle
-  unfolding load_files
-  second_loaded o p e t h = rw (h, ← e, t)
+  pub second_loaded : (read_survey survey).answer ≡ Ok tt →
+      load_files survey vehicle ≡ load_vehicle (record { survey = (read_survey survey).survey; vehicle = blank_vehicle }) vehicle
+  unfolding load_files load_survey
+  second_loaded t = rw t
 
 -- the first of rate's tests that fails
 module _ (members axles place : ℕ) where

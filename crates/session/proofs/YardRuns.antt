@@ -1,10 +1,10 @@
 -- The yard's vehicles one after the other: what the code has kept of the first ones, and one more by its answer, is kept of that one too.
 -- Assumes nothing.
-use Rattle.std.specs.Prelude.{Ok, Err}
-use Prim.Native.Nat.{ℕ, ◌+◌, ◌-◌, ◌≤◌, ◌<◌, min}
+use Prim.Native.Nat.{ℕ, zero, suc, ◌+◌, ◌-◌, ◌≤◌, ◌<◌, min}
 use mathlib.Core.Path.{◌≡◌, refl, sym, ap, subst, ◌∙◌}
 use mathlib.Core.List.{List, [], ◌∷◌, ◌++◌, map, map-append}
 use native.Mathlib.Numerals.{add-one}
+use native.Mathlib.Nat.{add-zero}
 use native.Mathlib.Omega.{arith}
 use lib.ListN.{length, take, drop, set, length-set, length-drop}
 use lib.Seq.{take_all, take-suc-set, drop-drop}
@@ -14,14 +14,11 @@ use Rattle.vehicles.proofs.Yards.{take_most, drop_most, one_more_file, left_afte
 use Rattle.rating.specs.declared.judging.Judgement.{Judgement}
 use Rattle.rating.specs.declared.judging.Verdict.{Verdict}
 use Rattle.rating.specs.declared.judging.Verdict.TheVariants.{Pass, Refuse}
-use Rattle.session.specs.Answers.{Answer, Values, WithMargin, WithDeflection, RefusedAt, load_answer, judge_answer, verdict_number, judgement_answer, refused_by}
+use Rattle.session.specs.Answers.{Answer, Values, WithMargin, WithDeflection, RefusedAt, verdict_number, judgement_answer, refused_by}
 use Rattle.session.specs.Calls.{unless_refused}
 use Rattle.session.specs.Yard.{Entry, entries, alone, passing, first_refusal}
-use Rattle.session.specs.YardRun.{answers_to, with_answer, Ran}
-use Rattle.session.specs.declared.Judged.{Judged}
-use Rattle.session.specs.declared.Judged.TheVariants.{Figures}
-use Rattle.session.specs.declared.Judged.TheVariants.{Err as NotJudged}
-use Rattle.session.specs.declared.Session.{Session}
+use Rattle.session.specs.YardRun.{answers_to, with_answer, Going, FirstRefused}
+use Rattle.session.specs.Loaded.{Session}
 use Rattle.session.specs.declared.yard.Run.{Run}
 use Rattle.session.proofs.Loads.{never_both}
 
@@ -82,75 +79,54 @@ verdict_small Pass = omega arith
 verdict_small Refuse = omega arith
 
 -- no vehicle yet
-pub ran_none : (s : Session) (yard : List ℕ) (r : Run) → 1 ≤ length yard → r.answer ≡ (Ok tt) → r.at ≡ 1 → r.passes ≡ 0 →
-    length r.answers ≡ MOST_VEHICLES → Ran s yard 0 r
-ran_none s yard r h a at p sized =
-    record {
-      answer = rw a;
-      sized = sized;
-      going = λ t. record { within = omega arith; rest = rw at; entries = refl; passes = p; few = omega arith };
-    }
+pub going_none : (s : Session) (yard : List ℕ) (r : Run) → 1 ≤ length yard → r.at ≡ 1 → r.passes ≡ 0 → length r.answers ≡ MOST_VEHICLES → Going s yard 0 r
+going_none s yard r h at p sized =
+    record { clear = refl; sized = sized; within = omega arith; rest = rw at; entries = refl; passes = p; few = omega arith }
 
--- a refusal stays
-pub ran_refused : (s : Session) (yard : List ℕ) (i : ℕ) (r : Run) (f : Refusal) → Ran s yard i r → r.answer ≡ Err f → Ran s yard (i + 1) r
-ran_refused s yard i r f h t =
-    let before : first_refusal (answers_to s yard i) (Values []) ≡ refused_by f = sym h.answer ∙ ap load_answer t in
-    record {
-      answer = ap load_answer t ∙ sym (first_more s yard i ∙ first_some (answers_to s yard i) _ f.number f.place before);
-      sized = h.sized;
-      going = λ e. never_both [] f.number f.place (ap load_answer (sym e ∙ t));
-    }
+-- a refusal stays, however many vehicles come after it
+pub refusal_stays : (s : Session) (yard : List ℕ) (i n : ℕ) (f : Refusal) → FirstRefused s yard i f → FirstRefused s yard (i + n) f
+refusal_stays s yard i zero f e = rw add-zero e
+refusal_stays s yard i (suc n) f e =
+    let one : i + suc n ≡ i + n + 1 = omega arith in
+    rw one (first_more s yard (i + n) ∙ first_some (answers_to s yard (i + n)) _ f.number f.place (refusal_stays s yard i n f e))
 
--- one vehicle more, whose file is cut off what is left, by its answer
-module _ (s : Session) (yard : List ℕ) (i : ℕ) (r : Run) (h : Ran s yard i r) (t : r.answer ≡ (Ok tt)) where
+-- one vehicle more, whose file is cut off what is left
+module _ (s : Session) (yard : List ℕ) (i : ℕ) (r : Run) (h : Going s yard i r) where
   abbrev size : ℕ
   size = min (own_length (drop r.at yard)) (length (drop r.at yard))
 
   -- it is the next file
   cut : take size (drop r.at yard) ≡ next_file s yard i
-  cut = take_most (own_length (drop r.at yard)) (drop r.at yard) ∙ ap (λ (l : List ℕ). take (own_length l) l) (h.going t).rest
+  cut = take_most (own_length (drop r.at yard)) (drop r.at yard) ∙ ap (λ (l : List ℕ). take (own_length l) l) h.rest
 
-  clear : first_refusal (answers_to s yard i) (Values []) ≡ Values []
-  clear = sym h.answer ∙ ap load_answer t
-
-  first_is : (judged : Judged) → judge_answer judged ≡ alone s (take size (drop r.at yard)) →
-      first_refusal (answers_to s yard (i + 1)) (Values []) ≡ unless_refused (judge_answer judged) (judge_answer judged) (Values [])
-  first_is judged e =
-      first_more s yard i ∙ first_none (answers_to s yard i) _ clear ∙ ap (λ (a : Answer). unless_refused a a (Values [])) (sym (e ∙ ap (alone s) cut))
+  first_is : (a : Answer) → a ≡ alone s (take size (drop r.at yard)) → first_refusal (answers_to s yard (i + 1)) (Values []) ≡ unless_refused a a (Values [])
+  first_is a e =
+      first_more s yard i ∙ first_none (answers_to s yard i) _ h.clear ∙ ap (λ (a : Answer). unless_refused a a (Values [])) (sym (e ∙ ap (alone s) cut))
 
   abbrev end : ℕ
   end = r.at + size
 
   left : drop end yard ≡ left_after (i + 1) (drop 1 yard)
   left =
-      sym (drop-drop size r.at yard) ∙ drop_most (own_length (drop r.at yard)) (drop r.at yard) ∙ ap (λ (l : List ℕ). drop (own_length l) l) (h.going t).rest ∙ sym (left_after_one i (drop 1 yard)) ∙ ap (λ (n : ℕ). left_after n (drop 1 yard)) (sym (add-one i))
+      sym (drop-drop size r.at yard) ∙ drop_most (own_length (drop r.at yard)) (drop r.at yard) ∙ ap (λ (l : List ℕ). drop (own_length l) l) h.rest ∙ sym (left_after_one i (drop 1 yard)) ∙ ap (λ (n : ℕ). left_after n (drop 1 yard)) (sym (add-one i))
 
   within : end ≤ length yard
-  within = omega (arith, length-drop r.at yard, (h.going t).within)
+  within = omega (arith, length-drop r.at yard, h.within)
 
-  ran_more : (judged : Judged) → i < MOST_VEHICLES → judge_answer judged ≡ alone s (take size (drop r.at yard)) →
-      Ran s yard (i + 1) (with_answer r judged i end)
-  ran_more (NotJudged f) few e =
-      record {
-        answer = sym (first_is (NotJudged f) e);
-        sized = h.sized;
-        going = λ taken. never_both [] f.number f.place (ap load_answer (sym taken));
-      }
-  ran_more (Figures j) few e =
+  going_more : (j : Judgement) → i < MOST_VEHICLES → judgement_answer j ≡ alone s (take size (drop r.at yard)) →
+      Going s yard (i + 1) (with_answer r j i end)
+  going_more j few e =
       let own : answers_to s yard (i + 1) ≡ answers_to s yard i ++ judgement_answer j ∷ [] = answers_more s yard i ∙ ap (λ (a : Answer). answers_to s yard i ++ a ∷ []) (sym (e ∙ ap (alone s) cut)) in
       record {
-        answer = sym (first_is (Figures j) e);
+        clear = first_is (judgement_answer j) e;
         sized = length-set r.answers i j ∙ h.sized;
-        going = λ taken.
-            record {
-              within = within;
-              rest = left;
-              entries =
-                  ap (λ (n : ℕ). entries (take n (set r.answers i j))) (add-one i) ∙ ap entries (take-suc-set r.answers i j (omega (arith, h.sized))) ∙ map-append judgement_answer (take i r.answers) (j ∷ []) ∙ ap (λ (l : List Entry). l ++ judgement_answer j ∷ []) (h.going t).entries ∙ sym own;
-              passes =
-                  sym (ap passing own ∙ passing_append (answers_to s yard i) (judgement_answer j ∷ []) ∙ rw (passing_one j, ← (h.going t).passes));
-              few = omega (arith, (h.going t).few, verdict_small j.verdict);
-            };
+        within = within;
+        rest = left;
+        entries =
+            ap (λ (n : ℕ). entries (take n (set r.answers i j))) (add-one i) ∙ ap entries (take-suc-set r.answers i j (omega (arith, h.sized))) ∙ map-append judgement_answer (take i r.answers) (j ∷ []) ∙ ap (λ (l : List Entry). l ++ judgement_answer j ∷ []) h.entries ∙ sym own;
+        passes =
+            sym (ap passing own ∙ passing_append (answers_to s yard i) (judgement_answer j ∷ []) ∙ rw (passing_one j, ← h.passes));
+        few = omega (arith, h.few, verdict_small j.verdict);
       }
 
   -- the same with the parts of the bytes as the code has them
@@ -160,13 +136,22 @@ module _ (s : Session) (yard : List ℕ) (i : ℕ) (r : Run) (h : Ran s yard i r
   behind_is : behind ≡ drop r.at yard
   behind_is = take_all (length yard - r.at) (drop r.at yard) (omega (arith, length-drop r.at yard))
 
-  pub file_within : (n : ℕ) → n ≡ min (own_length behind) (length behind) → r.at + n ≤ length yard
-  file_within n e = let same : n ≡ size = e ∙ ap (λ (l : List ℕ). min (own_length l) (length l)) behind_is in omega (arith, within)
+  module _ (n : ℕ) (e : n ≡ min (own_length behind) (length behind)) where
+    same : n ≡ size
+    same = e ∙ ap (λ (l : List ℕ). min (own_length l) (length l)) behind_is
 
-  pub ran_vehicle : (n : ℕ) (judged : Judged) → i < MOST_VEHICLES → n ≡ min (own_length behind) (length behind) →
-      judge_answer judged ≡ alone s (take (r.at + n - r.at) (drop r.at yard)) →
-      Ran s yard (i + 1) (with_answer r judged i (r.at + n))
-  ran_vehicle n judged few e a =
-      let same : n ≡ size = e ∙ ap (λ (l : List ℕ). min (own_length l) (length l)) behind_is in
-      let length_is : r.at + n - r.at ≡ size = omega arith in
-      subst (λ (m : ℕ). Ran s yard (i + 1) (with_answer r judged i (r.at + m))) (sym same) (ran_more judged few (a ∙ ap (λ (m : ℕ). alone s (take m (drop r.at yard))) length_is))
+    pub file_within : r.at + n ≤ length yard
+    file_within = omega (arith, within, same)
+
+    abbrev file : List ℕ
+    file = take (r.at + n - r.at) (drop r.at yard)
+
+    file_is : file ≡ take size (drop r.at yard)
+    file_is = let length_is : r.at + n - r.at ≡ size = omega (arith, same) in ap (λ (m : ℕ). take m (drop r.at yard)) length_is
+
+    pub judged_more : (j : Judgement) → i < MOST_VEHICLES → judgement_answer j ≡ alone s file → Going s yard (i + 1) (with_answer r j i (r.at + n))
+    judged_more j few a =
+        subst (λ (m : ℕ). Going s yard (i + 1) (with_answer r j i (r.at + m))) (sym same) (going_more j few (a ∙ ap (alone s) file_is))
+
+    pub refused_more : (f : Refusal) → refused_by f ≡ alone s file → FirstRefused s yard (i + 1) f
+    refused_more f a = first_is (refused_by f) (a ∙ ap (alone s) file_is)

@@ -1,6 +1,5 @@
 -- The tests of a yard in their order: those before the vehicles, the vehicles, those behind them. What the code finds there is the answer.
 -- Assumes nothing.
-use Rattle.std.specs.Prelude.{Ok, Err}
 use Prim.Native.Nat.{ℕ, ◌-◌, ◌≤◌, ◌<◌}
 use mathlib.Core.Path.{◌≡◌, refl, sym, ap, subst, ◌∙◌}
 use mathlib.Core.Bool.{Bool, true, false, not}
@@ -13,16 +12,12 @@ use Rattle.section.specs.Choose.{choose}
 use Rattle.member.specs.Format.{In, ◌‥◌}
 use Rattle.files.specs.Reading.{◌unless◌, first_of, is_in}
 use Rattle.vehicles.specs.YardFile.{MOST_VEHICLES, vehicles_of, left_over}
-use Rattle.files.specs.declared.Refusal.{Refusal}
 use Rattle.files.proofs.Tests.{not_none, none, passed, in_range}
-use Rattle.rating.specs.declared.judging.Judgement.{Judgement}
-use Rattle.session.specs.Answers.{Answer, Values, RefusedAt, load_answer, refused_by}
-use Rattle.session.specs.Calls.{Valid}
+use Rattle.session.specs.Answers.{Answer, Values, RefusedAt}
 use Rattle.session.specs.Yard.{vehicle_answers, passing, first_refusal, front_tests, end_tests, test, answered_yard}
-use Rattle.session.specs.YardRun.{Ran, Answered, refused_yard}
-use Rattle.session.specs.declared.Session.{Session}
+use Rattle.session.specs.YardRun.{Going, Found}
+use Rattle.session.specs.Loaded.{Session}
 use Rattle.session.specs.declared.yard.Run.{Run}
-use Rattle.session.specs.declared.yard.YardJudged.TheVariants.{Passes}
 use Rattle.session.proofs.YardRuns.{first_append, first_none, first_some}
 
 -- a row of tests is the first fault that it has
@@ -85,36 +80,20 @@ module _ (s : Session) (yard : List ℕ) (room : ℕ) where
       (eqb-true (length (left_over yard)) 0 (passed 1 _ (omega arith) first.0), leb-true (vehicles_of yard) room (passed 14 _ (omega arith) second.0))
 
   -- what the code has left is what is left over
-  pub end_is : (r : Run) → Ran s yard (vehicles_of yard) r → r.answer ≡ (Ok tt) →
+  pub end_is : (r : Run) → Going s yard (vehicles_of yard) r →
       first_of (end_tests (length yard - r.at) (vehicles_of yard) room) ≡ first_of ends
-  end_is r h t =
-      ap (λ (n : ℕ). first_of (end_tests n (vehicles_of yard) room)) (sym (length-drop r.at yard) ∙ ap length (h.going t).rest)
+  end_is r h =
+      ap (λ (n : ℕ). first_of (end_tests n (vehicles_of yard) room)) (sym (length-drop r.at yard) ∙ ap length h.rest)
 
   -- what the code hands to the writer
-  pub answered_refused : Valid s → (f : Refusal) (answers : List Judgement) → length answers ≡ MOST_VEHICLES → answered_yard s yard room ≡ refused_by f →
-      Answered s yard room (refused_yard s f answers)
-  answered_refused valid f answers sized e =
+  pub found_answers : (r : Run) → Going s yard (vehicles_of yard) r → front ≡ 0 → first_of ends ≡ 0 →
+      Found s yard room (record { passes = r.passes; count = vehicles_of yard; answers = r.answers })
+  found_answers r h clear e =
       record {
-        is = rw e;
-        sized = sized;
-        most = omega arith;
-        fits = omega arith;
-        count = rw e;
-        valid = valid;
-        entries = rw e;
-      }
-
-  pub answered_taken : Valid s → (r : Run) → Ran s yard (vehicles_of yard) r → r.answer ≡ (Ok tt) → front ≡ 0 → first_of ends ≡ 0 →
-      Answered s yard room (record { after = record { session = s; answer = Passes r.passes }; count = vehicles_of yard; answers = r.answers })
-  answered_taken valid r h t clear e =
-      let is = not_refused clear (sym h.answer ∙ ap load_answer t) e in
-      let going = h.going t in
-      record {
-        is = rw (is, ← going.passes);
+        is = rw h.passes (not_refused clear h.clear e);
         sized = h.sized;
         most = (front_clear clear).2.1;
         fits = (end_clear e).1;
-        count = rw is;
-        valid = valid;
-        entries = rw is going.entries;
+        count = refl;
+        entries = h.entries;
       }

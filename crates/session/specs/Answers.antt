@@ -1,37 +1,19 @@
 -- The answers' numbers: a number and values for every case of each answer, those of the documents where they have them.
 use Rattle.files.specs.Reading.{Reading}
-use Rattle.std.specs.Prelude.{ℕ, List, [], ◌∷◌, Ok, Err}
+use Rattle.std.specs.Prelude.{ℕ, List, [], ◌∷◌, Result, Ok, Err, ⊤}
 pub use Rattle.files.specs.Answer.{Answer, Values, WithMargin, WithDeflection, RefusedAt, refused_by}
+use Rattle.files.specs.Reading.{Reading}
+use Rattle.files.specs.declared.Refusal.{Refusal}
 use Rattle.rating.specs.declared.judging.Judgement.{Judgement}
 use Rattle.rating.specs.declared.judging.Rating.{Rating}
 use Rattle.rating.specs.declared.judging.Verdict.{Verdict}
 use Rattle.rating.specs.declared.judging.Verdict.TheVariants.{Pass, Refuse}
 use Rattle.between.specs.declared.Between.{Between}
 use Rattle.between.specs.declared.Between.TheVariants.{All, None, Undecided}
-use Rattle.between.specs.declared.BetweenJudged.{BetweenJudged}
-use Rattle.between.specs.declared.BetweenJudged.TheVariants.{Verdict as Given}
-use Rattle.between.specs.declared.BetweenJudged.TheVariants.{Err as NotBetween}
 use Rattle.gauge.specs.declared.Deflection.{Deflection}
 use Rattle.gauge.specs.declared.Deflection.TheVariants.{Within, Over}
-use Rattle.gauge.specs.declared.Gauged.{Gauged}
-use Rattle.gauge.specs.declared.Gauged.TheVariants.{Elastic}
-use Rattle.gauge.specs.declared.Gauged.TheVariants.{Err as NotGauged}
-use Rattle.session.specs.declared.AfterJudge.{AfterJudge}
-use Rattle.session.specs.declared.AfterLoad.{AfterLoad}
-use Rattle.session.specs.declared.AfterRate.{AfterRate}
-use Rattle.session.specs.declared.gauging.AfterGauge.{AfterGauge}
-use Rattle.session.specs.declared.readings.AfterBetween.{AfterBetween}
-use Rattle.session.specs.declared.yard.AfterYard.{AfterYard}
-use Rattle.session.specs.declared.Judged.{Judged}
-use Rattle.session.specs.declared.Judged.TheVariants.{Figures}
-use Rattle.session.specs.declared.Judged.TheVariants.{Err as NotJudged}
-use Rattle.session.specs.declared.Rated.{Rated}
-use Rattle.session.specs.declared.Rated.TheVariants.{Loads}
-use Rattle.session.specs.declared.Rated.TheVariants.{Err as NotRated}
-use Rattle.session.specs.declared.Session.{Session}
-use Rattle.session.specs.declared.yard.YardJudged.{YardJudged}
-use Rattle.session.specs.declared.yard.YardJudged.TheVariants.{Passes}
-use Rattle.session.specs.declared.yard.YardJudged.TheVariants.{Err as NotYard}
+use Rattle.session.specs.Loaded.{Session}
+use Rattle.session.specs.declared.After.{After}
 
 -- the number of an answer, 0 where the call succeeds, and its place
 abbrev pub number_of : Answer → ℕ
@@ -74,22 +56,23 @@ judgement_values j = j.figure.0 ∷ j.governing ∷ verdict_number j.verdict ∷
 abbrev pub judgement_answer : Judgement → Answer
 judgement_answer j = WithMargin (judgement_values j) j.margin
 
+-- a call that succeeds answers its values, and one that is refused its refusal
+abbrev pub answer_of : {T : Type 0} → (T → Answer) → Result T Refusal → Answer
+answer_of values (Ok x) = values x
+answer_of values (Err r) = refused_by r
+
 abbrev pub load_answer : Reading → Answer
-load_answer (Ok tt) = Values []
-load_answer (Err r) = refused_by r
+load_answer = answer_of (λ _. Values [])
 
-abbrev pub rate_answer : Rated → Answer
-rate_answer (Loads r) = rating_answer r
-rate_answer (NotRated r) = refused_by r
+abbrev pub rate_answer : Result Rating Refusal → Answer
+rate_answer = answer_of rating_answer
 
-abbrev pub judge_answer : Judged → Answer
-judge_answer (Figures j) = judgement_answer j
-judge_answer (NotJudged r) = refused_by r
+abbrev pub judge_answer : Result Judgement Refusal → Answer
+judge_answer = answer_of judgement_answer
 
 -- document 02, request 3/13: "The number of passing vehicles comes back too"
-abbrev pub yard_answer : YardJudged → Answer
-yard_answer (Passes n) = Values (n ∷ [])
-yard_answer (NotYard r) = refused_by r
+abbrev pub yard_answer : Result ℕ Refusal → Answer
+yard_answer = answer_of (λ n. Values (n ∷ []))
 
 -- document 02, request 5/13: "passes for all between, for none, or undecided"; the numbers of all and none are those of pass and refuse,
 -- that of undecided the next one
@@ -98,38 +81,39 @@ between_number All = 1
 between_number None = 0
 between_number Undecided = 2
 
-abbrev pub between_answer : BetweenJudged → Answer
-between_answer (Given b) = Values (between_number b ∷ [])
-between_answer (NotBetween r) = refused_by r
+abbrev pub between_answer : Result Between Refusal → Answer
+between_answer = answer_of (λ b. Values (between_number b ∷ []))
 
 -- document 02, request 11/13: "within or over, each carrying the deflection"; their numbers are those of pass and refuse
 abbrev pub deflection_answer : Deflection → Answer
 deflection_answer (Within d) = WithDeflection (1 ∷ []) d
 deflection_answer (Over d) = WithDeflection (0 ∷ []) d
 
-abbrev pub gauge_answer : Gauged → Answer
-gauge_answer (Elastic d) = deflection_answer d
-gauge_answer (NotGauged r) = refused_by r
+abbrev pub gauge_answer : Result Deflection Refusal → Answer
+gauge_answer = answer_of deflection_answer
 
 -- what a call leaves and answers
 pub record Outcome : Type 0 where
   pub session : Session
   pub answer : Answer
 
-abbrev pub loaded : AfterLoad → Outcome
-loaded r = record { session = r.session; answer = load_answer r.answer }
+abbrev pub outcome : {T : Type 0} → (Result T Refusal → Answer) → After T → Outcome
+outcome answer r = record { session = r.session; answer = answer r.answer }
 
-abbrev pub rated : AfterRate → Outcome
-rated r = record { session = r.session; answer = rate_answer r.answer }
+abbrev pub loaded : After ⊤ → Outcome
+loaded = outcome load_answer
 
-abbrev pub judged : AfterJudge → Outcome
-judged r = record { session = r.session; answer = judge_answer r.answer }
+abbrev pub rated : After Rating → Outcome
+rated = outcome rate_answer
 
-abbrev pub yard_judged : AfterYard → Outcome
-yard_judged r = record { session = r.session; answer = yard_answer r.answer }
+abbrev pub judged : After Judgement → Outcome
+judged = outcome judge_answer
 
-abbrev pub between_judged : AfterBetween → Outcome
-between_judged r = record { session = r.session; answer = between_answer r.answer }
+abbrev pub yard_judged : After ℕ → Outcome
+yard_judged = outcome yard_answer
 
-abbrev pub gauge_read : AfterGauge → Outcome
-gauge_read r = record { session = r.session; answer = gauge_answer r.answer }
+abbrev pub between_judged : After Between → Outcome
+between_judged = outcome between_answer
+
+abbrev pub gauge_read : After Deflection → Outcome
+gauge_read = outcome gauge_answer

@@ -3,9 +3,9 @@
 use Rattle.std.specs.Prelude.{ℕ, ◌-◌, ◌*◌, ◌<◌, not, List, [], ◌∷◌, eqb, leb, length, replicate, Ok, Err}
 use Rattle.section.specs.Choose.{choose}
 use Rattle.member.specs.Fields.{MOST_MEMBERS}
-use Rattle.member.specs.Format.{AllowedVehicle, ◌‥◌}
+use Rattle.member.specs.Format.{◌‥◌}
 use Rattle.rating.specs.Judgement.{rating_of, judgement_of, written}
-use Rattle.rating.specs.Surveyed.{AllowedSurvey, members_of, member_at}
+use Rattle.rating.specs.Surveyed.{members_of, member_at}
 use Rattle.member.specs.declared.record.Member.{Member}
 use Rattle.files.specs.Reading.{Reading, ◌unless◌, first_of, is_in}
 use Rattle.member.specs.Blank.{blank_survey}
@@ -14,17 +14,11 @@ use Rattle.vehicles.specs.VehicleFile.{read_vehicle, blank_vehicle}
 use Rattle.member.specs.declared.record.Survey.{Survey}
 use Rattle.member.specs.declared.record.Vehicle.{Vehicle}
 use Rattle.session.specs.Answers.{Answer, Values, WithMargin, WithDeflection, RefusedAt, Outcome, refused_by, rating_answer, judgement_answer}
-use Rattle.session.specs.declared.Session.{Session}
+pub use Rattle.session.specs.Loaded.{Session, Valid}
 
 -- a session with nothing loaded
 abbrev pub new_session : Session
 new_session = record { survey = blank_survey; vehicle = blank_vehicle }
-
--- What a session that was got from `new_session` by calls keeps to: a survey or a vehicle that is loaded is as its file's format
--- allows.
-pub record Valid (s : Session) : Type 0 where
-  pub survey : 0 < s.survey.count → AllowedSurvey s.survey
-  pub vehicle : 0 < s.vehicle.axles → AllowedVehicle s.vehicle
 
 abbrev pub members : Session → List Member
 members s = members_of s.survey

@@ -4,7 +4,7 @@ use Rattle.std.specs.Prelude.{ℕ, List}
 use Rattle.couple.specs.Couple.{couple as coupleFiles}
 use Rattle.session.specs.Answers.{Outcome}
 use Rattle.session.specs.Calls.{stored_vehicle}
-use Rattle.session.specs.declared.Session.{Session}
+use Rattle.session.specs.Loaded.{Session}
 
 -- "and load the result": it replaces the vehicle, as one that is loaded from a file does
 unfoldable pub couple : Session → (first second : List ℕ) (gap : ℕ) → Outcome

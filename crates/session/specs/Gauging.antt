@@ -6,7 +6,7 @@ use Rattle.gauge.specs.Gauge.{gauged}
 use Rattle.gauge.specs.declared.Readings.{Readings}
 use Rattle.session.specs.Answers.{Outcome, gauge_answer}
 use Rattle.session.specs.Calls.{members, rate_fault, unless_fault}
-use Rattle.session.specs.declared.Session.{Session}
+use Rattle.session.specs.Loaded.{Session}
 
 -- the tests of the state are rate's
 unfoldable pub gauge : Session → (place : ℕ) → Readings → Outcome

@@ -1,3 +1,4 @@
+pub mod Loaded
 pub mod Answers
 pub mod Calls
 pub mod Yard
@@ -5,3 +6,4 @@ pub mod YardRun
 pub mod Readings
 pub mod Gauging
 pub mod Coupling
+pub mod Place

@@ -3,7 +3,7 @@
 use Rattle.std.specs.Prelude.{ℕ, List, length}
 use Rattle.between.specs.Between.{answered_between, between_list}
 use Rattle.session.specs.Answers.{Outcome, between_answer}
-use Rattle.session.specs.declared.Session.{Session}
+use Rattle.session.specs.Loaded.{Session}
 
 -- "Neither is loaded. With the loaded vehicle, the answer .. gives a verdict"
 unfoldable pub judge_between : Session → (first second list : List ℕ) → Outcome

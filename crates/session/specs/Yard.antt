@@ -8,7 +8,7 @@ use Rattle.files.specs.Reading.{◌unless◌, is_in}
 use Rattle.vehicles.specs.YardFile.{MOST_VEHICLES, vehicles_of, vehicle_files, left_over}
 use Rattle.session.specs.Answers.{Answer, Values, Outcome, values_of, verdict_number, judgement_answer}
 use Rattle.session.specs.Calls.{load_vehicle, then_judge, unless_fault, unless_refused}
-use Rattle.session.specs.declared.Session.{Session}
+use Rattle.session.specs.Loaded.{Session}
 
 -- An entry of the lent list: "figure, governing place, verdict", and request 6/13, "the governing member's" margin: what judge answers
 -- where it succeeds.

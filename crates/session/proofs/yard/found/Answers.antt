@@ -12,7 +12,7 @@ use Rattle.session.specs.YardRun.{Ran}
 use Rattle.session.proofs.YardTests.{vehicle_refused, end_refused, end_is, answered_refused, answered_taken}
 use Rattle.session.proofs.yard.found.Goals as goal
 use Rattle.session.proofs.yard.found.Goals.{After-end_fault-end}
-use Rattle.session.specs.declared.Session.{Session}
+use Rattle.session.specs.Loaded.{Session}
 use Rattle.session.specs.declared.yard.Run.{Run}
 
 -- the run over all vehicles of the yard
