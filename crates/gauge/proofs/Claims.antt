@@ -18,8 +18,7 @@ use Rattle.gauge.specs.Gauge.{deflection, deflection_of, gauged}
 use Rattle.gauge.specs.Fault.{ReadingFault, MayBeGauged}
 use Rattle.gauge.specs.Claims.{Exact, LosesNothing, Compared}
 use Rattle.gauge.specs.declared.Deflection.TheVariants.{Within, Over}
-use Rattle.gauge.specs.declared.Gauged.TheVariants.{Elastic}
-use Rattle.gauge.specs.declared.Gauged.TheVariants.{Refused as NotGauged}
+use Rattle.std.specs.Prelude.{Ok, Err}
 use Rattle.gauge.specs.declared.Readings.{Readings}
 use Rattle.gauge.proofs.Differences.{deflected, deflection_reading}
 use Rattle.gauge.proofs.Refusals.{good_taken, fault_refused}
@@ -61,10 +60,10 @@ compared m class r g = go (at_most (value_of (deflection r)) (limit m class)) re
         }
 
 -- by the tests: a deflection, or the refusal
-pub gauged_elastic : (m : Member) (class : ℕ) (r : Readings) → MayBeGauged r → gauged m class r ≡ Elastic (deflection_of m class r)
+pub gauged_elastic : (m : Member) (class : ℕ) (r : Readings) → MayBeGauged r → gauged m class r ≡ Ok (deflection_of m class r)
 unfolding gauged
 gauged_elastic m class r g = rw (good_taken r g)
 
-pub gauged_refused : (m : Member) (class : ℕ) (r : Readings) (n p : ℕ) → ReadingFault r n p → gauged m class r ≡ NotGauged (record { number = n; place = p })
+pub gauged_refused : (m : Member) (class : ℕ) (r : Readings) (n p : ℕ) → ReadingFault r n p → gauged m class r ≡ Err (record { number = n; place = p })
 unfolding gauged
 gauged_refused m class r n p f = rw (fault_refused r n p f)

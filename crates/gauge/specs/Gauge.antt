@@ -1,18 +1,16 @@
 -- What the readings of a gauge under a member give. Document 02, request 11/13: "Gauges under a test load."
-use Rattle.std.specs.Prelude.{ℕ, List, [], ◌∷◌, map, Float, Ok, Err}
+use Rattle.std.specs.Prelude.{ℕ, List, [], ◌∷◌, map, Float, Result}
 use Rattle.std.specs.Float.{binary32}
 use Rattle.std.specs.Float.Ieee.{sub}
 use Rattle.section.specs.Choose.{choose}
 use Rattle.section.specs.Fraction.{at_most}
 use Rattle.member.specs.declared.record.Member.{Member}
-use Rattle.files.specs.Reading.{Reading, ◌unless◌, first_fault, or_else, test}
+use Rattle.files.specs.Reading.{Reading, ◌unless◌, first_fault, or_else, test, taken}
+use Rattle.files.specs.declared.Refusal.{Refusal}
 use Rattle.gauge.specs.Limit.{limit}
 use Rattle.gauge.specs.Value.{value_of, is_reading}
 use Rattle.gauge.specs.declared.Deflection.{Deflection}
 use Rattle.gauge.specs.declared.Deflection.TheVariants.{Within, Over}
-use Rattle.gauge.specs.declared.Gauged.{Gauged}
-use Rattle.gauge.specs.declared.Gauged.TheVariants.{Elastic}
-use Rattle.gauge.specs.declared.Gauged.TheVariants.{Err as NotGauged}
 use Rattle.gauge.specs.declared.Readings.{Readings}
 
 -- "empty, loaded, after", in their order
@@ -35,9 +33,6 @@ deflection r = sub binary32 r.loaded r.after
 unfoldable pub deflection_of : Member → (class : ℕ) → Readings → Deflection
 deflection_of m class r = choose (at_most (value_of (deflection r)) (limit m class)) (Within (deflection r)) (Over (deflection r))
 
-abbrev pub gauged_by : Reading → Deflection → Gauged
-gauged_by (Ok tt) d = Elastic d
-gauged_by (Err f) d = NotGauged f
-
-unfoldable pub gauged : Member → (class : ℕ) → Readings → Gauged
-gauged m class r = gauged_by (reading_tests r) (deflection_of m class r)
+-- a refusal of the readings, or the deflection
+unfoldable pub gauged : Member → (class : ℕ) → Readings → Result Deflection Refusal
+gauged m class r = taken (reading_tests r) (deflection_of m class r)

@@ -20,18 +20,20 @@ fn span_in_mm(m: Member) -> Mm
 fn span_divisor(kind: u64) -> u64
     ensures { result ≡ span_divisor kind }
 {
-    let stringer = kind == 1;
-    let cross_beam = kind == 2;
-    let close_stringer = kind == 7;
-    let beam = stringer | cross_beam | close_stringer;
-    if beam { 180 } else { 300 }
+    match kind {
+        1 | 2 | 7 => 180,
+        _ => 300,
+    }
 }
 
 // A fifth more for class 1.
 fn fifths(class: u8) -> u64
     ensures { result ≡ fifths_of class }
 {
-    if class == 1 { 6 } else { 5 }
+    match class {
+        1 => 6,
+        _ => 5,
+    }
 }
 
 // Whether so many 64ths of a millimetre are at most the limit, by multiplying out.

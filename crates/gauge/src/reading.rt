@@ -1,8 +1,6 @@
 // A reading by its bits: a sign, an exponent of eight bits and a mantissa of 23, behind a leading 1 that is not written.
 ghost use Rattle.std.specs.Prelude.{◌≡◌, ◌-◌, ◌*◌, ◌^◌, ◌≤◌, ◌<◌};
-ghost use Rattle.gauge.specs.Whole.{counted, no_reading, counted_of};
-
-use files::words::widest;
+ghost use Rattle.gauge.specs.Whole.{counted_of};
 
 // 2 to the 23, above the mantissa's bits: where the leading 1 would stand, and the exponent does.
 const LEADING_ONE: u32 = 8388608;
@@ -15,57 +13,32 @@ const GREATEST_EXPONENT: u32 = 135;
 // A number with the least exponent is its mantissa, with the leading 1, in so many parts of a 64th.
 const PARTS: u64 = 8388608;
 
-// How many 64ths of a millimetre a reading has; 0 where it is none.
-#[derive(Clone, Copy)]
-pub struct SixtyFourths {
-    pub good: bool,
-    pub count: u64,
-}
-
-fn counted(count: u64) -> SixtyFourths
-    ensures { result ≡ counted count }
-{
-    SixtyFourths { good: true, count }
-}
-
-fn no_reading() -> SixtyFourths
-    ensures { result ≡ no_reading }
-{
-    SixtyFourths {
-        good: false,
-        count: 0,
-    }
-}
-
 // A number in parts of a 64th, by its mantissa with the leading 1 and its exponent.
 fn scaled(mantissa: u32, exponent: u32) -> u64
     requires { (mantissa < 2 ^ 24) × (121 ≤ exponent) × (exponent ≤ 135) }
     ensures { result ≡ mantissa * 2 ^ (exponent - 121) }
 {
-    widest(mantissa) << (exponent - LEAST_EXPONENT)
+    u64::from(mantissa) << (exponent - LEAST_EXPONENT)
 }
 
-// A reading in 64ths of a millimetre. A NaN, which alone differs from itself, has no bits to look at.
-pub fn sixty_fourths(x: f32) -> SixtyFourths
+// A reading in 64ths of a millimetre, where it is one. A NaN has no bits to look at.
+pub fn sixty_fourths(x: f32) -> Option<u64>
     ensures { result ≡ counted_of x }
 {
-    if x != x {
-        return no_reading();
+    if x.is_nan() {
+        return None;
     }
-    let bits = f32::to_bits(x);
+    let bits = x.to_bits();
     if bits == 0 {
-        return counted(0);
+        return Some(0);
     }
     let exponent = bits / LEADING_ONE;
-    if exponent < LEAST_EXPONENT {
-        return no_reading();
-    }
-    if GREATEST_EXPONENT < exponent {
-        return no_reading();
+    if exponent < LEAST_EXPONENT || GREATEST_EXPONENT < exponent {
+        return None;
     }
     let parts = scaled(LEADING_ONE + bits % LEADING_ONE, exponent);
     if parts % PARTS != 0 {
-        return no_reading();
+        return None;
     }
-    counted(parts / PARTS)
+    Some(parts / PARTS)
 }

@@ -1,23 +1,21 @@
 -- `gauge` meets its contract: a refusal answers itself; else no test fails.
 -- Assumes nothing.
-use mathlib.Core.Path.{sym, ◌∙◌}
+use Rattle.std.proofs.lemmas.Result.{err_from_is_err_and}
+use mathlib.Core.Path.{sym}
 use Rattle.gauge.specs.Gauge.{gauged}
-use Rattle.gauge.specs.Fault.{MayBeGauged}
 use Rattle.gauge.proofs.Refusals.{taken_good}
 use Rattle.gauge.proofs.gauge.Goals as goal
-use Rattle.gauge.proofs.gauge.Goals.{In-Ok}
+
+pub returns-in_err-readings_answer : goal.returns-in_err-readings_answer
+unfolding gauged
+returns-in_err-readings_answer c =
+    let p = err_from_is_err_and c.from_residual.result c.from_residual.ensures.1 in
+    rw (p.1, p.2, sym c.in_err-readings_answer.ensures)
 
 -- every test holds
-good : (c : In-Ok) → MayBeGauged c.args.readings
-good c = taken_good _ (sym c.readings_answer-answer.ensures ∙ c.in-Ok.is)
-
 pub compared-requires : goal.compared-requires
-compared-requires c = (c.requires, good (goal.at.compared-requires c).In-Ok)
+compared-requires c = (c.requires, taken_good _ (sym c.in_ok-readings_answer.ensures))
 
-pub returns-in-Ok : goal.returns-in-Ok
+pub returns : goal.returns
 unfolding gauged
-returns-in-Ok c = rw (c.compared.ensures, sym c.readings_answer-answer.ensures ∙ c.in-Ok.is)
-
-pub returns-in-Err : goal.returns-in-Err
-unfolding gauged
-returns-in-Err c = rw (sym c.readings_answer-answer.ensures ∙ c.in-Err.is)
+returns c = rw (c.compared.ensures, sym c.in_ok-readings_answer.ensures)
