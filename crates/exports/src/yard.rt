@@ -5,9 +5,9 @@ ghost use Rattle.session.specs.Answers.{yard_answer};
 ghost use Rattle.session.specs.Yard.{entries};
 ghost use Rattle.exports.specs.YardNumbers.{yard_numbers_of, numbers_in, yard_numbers, yard_number_list};
 
-use files::Reading;
+use files::Refusal;
 use rating::judging::Judgement;
-use session::yard::{YardJudged, yard_answers};
+use session::yard::yard_answers;
 use session::{Session, verdict_number};
 use vehicles::yard::MOST_VEHICLES;
 
@@ -22,19 +22,19 @@ pub struct YardNumbers {
     pub passes: u64,
 }
 
-fn numbers_of(answer: YardJudged, count: u64) -> YardNumbers
+fn numbers_of(answer: Result<u64, Refusal>, count: u64) -> YardNumbers
     ensures { result ≡ yard_numbers_of (yard_answer answer) count }
 {
     match answer {
-        YardJudged::Passes(passes) => YardNumbers {
+        Ok(passes) => YardNumbers {
             refusal: 0,
             place: 0,
             vehicles: count,
             passes,
         },
-        YardJudged::Refused(r) => YardNumbers {
-            refusal: r.number,
-            place: r.place,
+        Err(refusal) => YardNumbers {
+            refusal: refusal.number,
+            place: refusal.place,
             vehicles: 0,
             passes: 0,
         },
@@ -46,15 +46,12 @@ fn put_numbers(list: &mut [u64], answers: [Judgement; MOST_VEHICLES], count: usi
     requires { (count ≤ MOST_VEHICLES) × (length answers ≡ MOST_VEHICLES) × (3 * count ≤ length list.old) }
     ensures { list.new ≡ numbers_in (entries (take count answers)) ++ drop (3 * count) list.old }
 {
-    let mut i: usize = 0;
-    while i < count {
+    for i in 0..count {
         let j = answers[i];
-        let verdict = j.verdict;
         let at = 3 * i;
         list[at] = j.figure.0;
         list[at + 1] = j.governing;
-        list[at + 2] = verdict_number(verdict);
-        i += 1;
+        list[at + 2] = verdict_number(j.verdict);
     }
 }
 
@@ -65,17 +62,15 @@ pub extern "C" fn tbr_yard(survey: &[u8], yard: &[u8], list: &mut [u64]) -> Yard
     ensures is { result ≡ yard_numbers survey.now yard.now list.old }
     ensures list { list.new ≡ yard_number_list survey.now yard.now list.old }
 {
-    let first = Session::new().load_survey(survey);
-    let taken = first.answer;
-    if let Reading::Refused(refusal) = taken {
-        return numbers_of(YardJudged::Refused(refusal), 0);
+    let loaded = Session::new().load_survey(survey);
+    if let Err(refusal) = loaded.answer {
+        return numbers_of(Err(refusal), 0);
     }
-    let session = first.session;
-    let found = yard_answers(session, yard, list.len() / 3);
-    let count = found.count;
-    let answers = found.answers;
-    put_numbers(list, answers, count);
-    let after = found.after;
-    let answer = after.answer;
-    numbers_of(answer, count as u64)
+    match yard_answers(&loaded.session, yard, list.len() / 3) {
+        Ok(found) => {
+            put_numbers(list, found.answers, found.count);
+            numbers_of(Ok(found.passes), found.count as u64)
+        }
+        Err(refusal) => numbers_of(Err(refusal), 0),
+    }
 }

@@ -7,7 +7,9 @@ ghost use Rattle.session.specs.Answers.{judge_answer};
 ghost use Rattle.session.specs.Calls.{judge_files};
 ghost use Rattle.judgement.specs.Numbers.{numbers_of};
 
-use session::{Judged, judge_files, verdict_number};
+use files::Refusal;
+use rating::judging::Judgement;
+use session::{judge_files, verdict_number};
 
 // Number and place of a refusal, both 0 where there is none; then figure, governing place and verdict (1 pass, 0 refuse), all 0
 // where a file is refused. The host's declaration has the same fields in the same order.
@@ -21,23 +23,20 @@ pub struct Numbers {
     pub passes: u64,
 }
 
-pub fn numbers_of(answer: Judged) -> Numbers
+pub fn numbers_of(answer: Result<Judgement, Refusal>) -> Numbers
     ensures { result ≡ numbers_of (judge_answer answer) }
 {
     match answer {
-        Judged::Figures(j) => {
-            let verdict = j.verdict;
-            Numbers {
-                refusal: 0,
-                place: 0,
-                figure: j.figure.0,
-                governing: j.governing,
-                passes: verdict_number(verdict),
-            }
-        }
-        Judged::Refused(r) => Numbers {
-            refusal: r.number,
-            place: r.place,
+        Ok(j) => Numbers {
+            refusal: 0,
+            place: 0,
+            figure: j.figure.0,
+            governing: j.governing,
+            passes: verdict_number(j.verdict),
+        },
+        Err(refusal) => Numbers {
+            refusal: refusal.number,
+            place: refusal.place,
             figure: 0,
             governing: 0,
             passes: 0,
