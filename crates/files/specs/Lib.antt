@@ -5,3 +5,4 @@ pub mod Answer
 pub mod Writing
 pub mod Header
 pub mod Refused
+pub mod Text

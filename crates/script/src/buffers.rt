@@ -2,7 +2,7 @@
 use crate::out::Out;
 use crate::print;
 use convert::{Wanted, convert};
-use files::output::Written;
+use files::Refusal;
 use join::join;
 
 // The longest buffer that a script can ask for: more than the longest survey has.
@@ -11,42 +11,32 @@ const MOST_BYTES: usize = 8200;
 // What a byte of a lent buffer holds, so that bytes that were kept are seen.
 const KNOWN: u8 = 0xEE;
 
-fn print_written(out: &mut Out, name: &[u8], answer: Written, buffer: &[u8]) {
-    print::text(out, name);
-    print::written(out, answer);
+fn told(out: &mut Out, name: &[u8], answer: Result<u64, Refusal>, buffer: &[u8]) {
+    out.bytes(name);
+    print::answer(out, answer);
     print::bytes(out, buffer);
-}
-
-fn convert_into(out: &mut Out, file: &[u8], wanted: Wanted, buffer: &mut [u8]) {
-    let answer = convert(file, wanted, buffer);
-    print_written(out, b"convert", answer, buffer);
-}
-
-fn join_into(out: &mut Out, first: &[u8], second: &[u8], buffer: &mut [u8]) {
-    let answer = join(first, second, buffer);
-    print_written(out, b"join", answer, buffer);
-}
-
-fn too_long(out: &mut Out) {
-    print::line(out, b"no buffer is so long");
 }
 
 // A vehicle file, into a buffer of so many bytes.
 pub fn convert_with(out: &mut Out, file: &[u8], wanted: Wanted, room: usize) {
-    let mut buffer = [KNOWN; MOST_BYTES];
-    if room <= MOST_BYTES {
-        convert_into(out, file, wanted, &mut buffer[..room]);
-    } else {
-        too_long(out);
+    if MOST_BYTES < room {
+        print::line(out, b"no buffer is so long");
+        return;
     }
+    let mut known = [KNOWN; MOST_BYTES];
+    let buffer = &mut known[..room];
+    let answer = convert(file, wanted, buffer);
+    told(out, b"convert", answer, buffer);
 }
 
 // Two survey files, into a buffer of so many bytes.
 pub fn join_with(out: &mut Out, first: &[u8], second: &[u8], room: usize) {
-    let mut buffer = [KNOWN; MOST_BYTES];
-    if room <= MOST_BYTES {
-        join_into(out, first, second, &mut buffer[..room]);
-    } else {
-        too_long(out);
+    if MOST_BYTES < room {
+        print::line(out, b"no buffer is so long");
+        return;
     }
+    let mut known = [KNOWN; MOST_BYTES];
+    let buffer = &mut known[..room];
+    let answer = join(first, second, buffer);
+    told(out, b"join", answer, buffer);
 }

@@ -1,103 +1,126 @@
 // The calls of a session, each with its answer printed. The next step goes on with the session that the call handed back.
-ghost use Rattle.std.specs.Prelude.{◌≡◌, length};
-ghost use Rattle.session.specs.Calls.{Valid};
-ghost use Rattle.script.specs.Lent.{MOST_ENTRIES};
+ghost use Rattle.std.specs.Prelude.{◌≤◌, ◌<◌, length};
 
 use crate::out::Out;
 use crate::print;
-use section::Cm;
-use session::Session;
+use crate::print::Fields;
+use gauge::Readings;
+use rating::judging::{Judgement, Verdict};
+use section::KgfPerM;
+use session::{After, Session};
 
 // The longest list that a script can ask for: two entries a member of the longest survey, and some more.
-pub const MOST_ENTRIES: usize = 520;
+const MOST_ENTRIES: usize = 520;
+
+// The longest list of judgements that a script can ask for.
+const MOST_JUDGEMENTS: usize = 40;
 
 // Entry i of a lent list holds KNOWN + i, so that entries that were kept are seen.
-pub const KNOWN: u64 = 1000000;
+const KNOWN: u64 = 1000000;
 
-pub fn start(out: &mut Out) -> Session
-    ensures { Valid result }
-{
-    print::line(out, b"new");
-    Session::new()
-}
-
-pub fn load_survey(out: &mut Out, session: Session, bytes: &[u8]) -> Session
-    requires { Valid session }
-    ensures { Valid result }
-{
-    let after = session.load_survey(bytes);
-    print::text(out, b"survey");
-    let answer = after.answer;
-    print::reading(out, answer);
+// A call's line, and the session that it handed back.
+pub fn told<T: Fields>(out: &mut Out, name: &[u8], after: After<T>) -> Session {
+    out.bytes(name);
+    print::answer(out, after.answer);
     after.session
 }
 
-pub fn load_vehicle(out: &mut Out, session: Session, bytes: &[u8]) -> Session
-    requires { Valid session }
-    ensures { Valid result }
-{
-    let after = session.load_vehicle(bytes);
-    print::text(out, b"vehicle");
-    let answer = after.answer;
-    print::reading(out, answer);
-    after.session
-}
-
-pub fn couple(out: &mut Out, session: Session, first: &[u8], second: &[u8], gap: Cm) -> Session
-    requires { Valid session }
-    ensures { Valid result }
-{
-    let after = session.couple(first, second, gap);
-    print::text(out, b"couple");
-    let answer = after.answer;
-    print::reading(out, answer);
-    after.session
-}
-
-pub fn rate(out: &mut Out, session: Session, place: u64) -> Session
-    requires { Valid session }
-    ensures { Valid result }
-{
-    let after = session.rate(place);
-    print::text(out, b"rate");
+pub fn rate(out: &mut Out, session: Session, place: u64) -> Session {
+    out.bytes(b"rate");
     print::number(out, place);
-    let answer = after.answer;
-    print::rated(out, answer);
-    after.session
+    told(out, b"", session.rate(place))
 }
 
-pub fn known_list() -> [u64; MOST_ENTRIES]
-    ensures { MOST_ENTRIES ≡ length result }
-{
+fn too_long(out: &mut Out, session: Session) -> Session {
+    print::line(out, b"no list is so long");
+    session
+}
+
+fn known_list() -> [u64; MOST_ENTRIES] {
     let mut list = [0u64; MOST_ENTRIES];
-    for i in 0..MOST_ENTRIES {
-        list[i] = KNOWN + i as u64;
+    for (i, entry) in list.iter_mut().enumerate() {
+        *entry = KNOWN + i as u64;
     }
     list
 }
 
 // Judges with the list, and prints the whole list as it is then.
-fn judge_with(out: &mut Out, session: Session, list: &mut [u64]) -> Session
-    requires { Valid session }
-    ensures { Valid result }
-{
-    let after = session.judge(list);
-    print::text(out, b"judge");
-    let answer = after.answer;
-    print::judged(out, answer);
+pub fn judge(out: &mut Out, session: Session, entries: usize) -> Session {
+    if MOST_ENTRIES < entries {
+        return too_long(out, session);
+    }
+    let mut known = known_list();
+    let list = &mut known[..entries];
+    let session = told(out, b"judge", session.judge(list));
     print::list(out, list);
-    after.session
+    session
 }
 
-pub fn judge(out: &mut Out, session: Session, entries: usize) -> Session
-    requires { Valid session }
-    ensures { Valid result }
-{
-    let mut list = known_list();
-    if entries <= MOST_ENTRIES {
-        judge_with(out, session, &mut list[..entries])
-    } else {
-        print::line(out, b"no list is so long");
-        session
+// Judges two surveys with the list, and prints the whole list as it is then.
+pub fn judge_between(
+    out: &mut Out,
+    session: Session,
+    first: &[u8],
+    second: &[u8],
+    entries: usize,
+) -> Session {
+    if MOST_ENTRIES < entries {
+        return too_long(out, session);
     }
+    let mut known = known_list();
+    let list = &mut known[..entries];
+    let session = told(out, b"between", session.judge_between(first, second, list));
+    print::list(out, list);
+    session
+}
+
+fn known_judgement(i: usize) -> Judgement
+    requires { i < 40 }
+{
+    let number = KNOWN + i as u64;
+    Judgement {
+        figure: KgfPerM(number),
+        governing: number,
+        verdict: Verdict::Refuse,
+        margin: number as i64,
+    }
+}
+
+// Judges the yard with the list, and prints the whole list as it is then.
+pub fn judge_yard(out: &mut Out, session: Session, yard: &[u8], entries: usize) -> Session {
+    if MOST_JUDGEMENTS < entries {
+        return too_long(out, session);
+    }
+    let mut known = [known_judgement(0); MOST_JUDGEMENTS];
+    for (i, entry) in known.iter_mut().enumerate() {
+        *entry = known_judgement(i);
+    }
+    let list = &mut known[..entries];
+    let session = told(out, b"yard", session.judge_yard(yard, list));
+    print::list(out, list);
+    session
+}
+
+// The pattern of the infinity: with the sign bit taken off, those of a NaN are above it.
+const INFINITY: u32 = 2139095040;
+
+const SIGN: u32 = 2147483648;
+
+// The float of a pattern. Of a NaN's pattern none can be made, so a NaN is worked out; the call knows only one.
+fn float_of(bits: u32) -> f32 {
+    if INFINITY < bits % SIGN {
+        0.0 / 0.0
+    } else {
+        f32::from_bits(bits)
+    }
+}
+
+// The readings of a gauge by their bits.
+pub fn gauge(out: &mut Out, session: Session, place: u64, bits: [u32; 3]) -> Session {
+    let readings = Readings {
+        empty: float_of(bits[0]),
+        loaded: float_of(bits[1]),
+        after: float_of(bits[2]),
+    };
+    told(out, b"gauge", session.gauge(place, readings))
 }

@@ -16,211 +16,155 @@
 
 mod buffers;
 mod calls;
-mod gauging;
 pub mod out;
 pub mod print;
-mod readings;
-mod yard;
 
 ghost use Rattle.std.specs.Prelude.{◌+◌, ◌≤◌, ◌<◌, length};
-ghost use Rattle.session.specs.Calls.{Valid};
 
 use convert::Wanted;
+use files::words::word_at;
 use out::Out;
 use section::Cm;
 use session::Session;
 
-const HEAD: usize = 3;
+// A step's letter and number.
+const HEAD: usize = 1 + NUMBER;
 
 // The bytes of a number.
 const NUMBER: usize = 2;
 
-#[derive(Clone, Copy)]
-struct Step {
-    letter: u8,
-    number: usize,
-}
-
-fn wide(x: u8) -> usize
-    ensures { result < 256 }
-{
-    x as usize
-}
-
-fn number_at(script: &[u8], at: usize) -> usize
-    requires { at + 2 ≤ length script.now }
+fn number_at(bytes: &[u8], at: usize) -> usize
+    requires { at + 1 < length bytes.now }
     ensures { result < 65536 }
 {
-    let low = wide(script[at]);
-    let high = wide(script[at + 1]);
-    low + 256 * high
+    usize::from(word_at(bytes, at))
 }
 
-fn step_at(script: &[u8], at: usize) -> Step
-    requires { at + 3 ≤ length script.now }
-{
-    Step {
-        letter: script[at],
-        number: number_at(script, at + 1),
+// Whether the number of a step is that of the bytes that follow it.
+fn has_bytes(letter: u8) -> bool {
+    matches!(
+        letter,
+        b'T' | b'S' | b'V' | b'Y' | b'B' | b'C' | b'M' | b'G' | b'K'
+    )
+}
+
+// A number and two files, of which the first one's length stands behind the number.
+struct Pair<'a> {
+    number: usize,
+    first: &'a [u8],
+    second: &'a [u8],
+}
+
+// None where the script is cut within the first file or before it.
+fn pair_of(bytes: &[u8]) -> Option<Pair<'_>> {
+    if bytes.len() < 2 * NUMBER {
+        return None;
     }
-}
-
-// Where the bytes of a step end that start at `from`; a cut script ends them.
-fn end_of(step: Step, from: usize, script: &[u8]) -> usize
-    requires { from ≤ length script.now }
-    ensures { (from ≤ result) × (result ≤ length script.now) }
-{
-    let letter = step.letter;
-    let number = step.number;
-    match letter {
-        b'T' | b'S' | b'V' | b'Y' | b'B' | b'C' | b'M' | b'G' | b'K' => {
-            if number <= script.len() - from {
-                from + number
-            } else {
-                script.len()
-            }
-        }
-        _ => from,
+    let files = &bytes[2 * NUMBER..];
+    let length = number_at(bytes, NUMBER);
+    if files.len() < length {
+        return None;
     }
+    Some(Pair {
+        number: number_at(bytes, 0),
+        first: &files[..length],
+        second: &files[length..],
+    })
 }
 
-// A script that is cut before the yard has no list: its bytes are printed.
-fn run_yard(out: &mut Out, session: Session, bytes: &[u8]) -> Session
-    requires { Valid session }
-    ensures { Valid result }
-{
+// A step answers the next one's session, and none where the script is cut within its bytes.
+fn judge_yard(out: &mut Out, session: Session, bytes: &[u8]) -> Option<Session> {
     if bytes.len() < NUMBER {
-        print::line(out, bytes);
-        return session;
-    }
-    yard::judge(out, session, &bytes[NUMBER..], number_at(bytes, 0))
-}
-
-// Two files stand behind two numbers, of which the second is the first file's length.
-const FILES: usize = 2 * NUMBER;
-
-// Where the first file ends; 0 where the script is cut within it or before it.
-fn first_end(bytes: &[u8]) -> usize
-    ensures { result ≤ length bytes.now }
-{
-    if bytes.len() < FILES {
-        return 0;
-    }
-    let first = number_at(bytes, NUMBER);
-    if bytes.len() - FILES < first {
-        return 0;
-    }
-    FILES + first
-}
-
-// A script that is cut: its bytes are printed.
-fn run_between(out: &mut Out, session: Session, bytes: &[u8]) -> Session
-    requires { Valid session }
-    ensures { Valid result }
-{
-    let end = first_end(bytes);
-    if end < FILES {
-        print::line(out, bytes);
-        return session;
+        return None;
     }
     let entries = number_at(bytes, 0);
-    readings::judge(out, session, &bytes[FILES..end], &bytes[end..], entries)
+    Some(calls::judge_yard(out, session, &bytes[NUMBER..], entries))
 }
 
-// A script that is cut: its bytes are printed.
-fn run_join(out: &mut Out, bytes: &[u8]) {
-    let end = first_end(bytes);
-    if end < FILES {
-        print::line(out, bytes);
-        return;
-    }
-    let room = number_at(bytes, 0);
-    buffers::join_with(out, &bytes[FILES..end], &bytes[end..], room);
+fn judge_between(out: &mut Out, session: Session, bytes: &[u8]) -> Option<Session> {
+    let pair = pair_of(bytes)?;
+    Some(calls::judge_between(
+        out,
+        session,
+        pair.first,
+        pair.second,
+        pair.number,
+    ))
 }
 
-// A script that is cut: its bytes are printed.
-fn run_couple(out: &mut Out, session: Session, bytes: &[u8]) -> Session
-    requires { Valid session }
-    ensures { Valid result }
-{
-    let end = first_end(bytes);
-    if end < FILES {
-        print::line(out, bytes);
-        return session;
-    }
-    let gap = Cm(number_at(bytes, 0) as u64);
-    calls::couple(out, session, &bytes[FILES..end], &bytes[end..], gap)
+fn join(out: &mut Out, session: Session, bytes: &[u8]) -> Option<Session> {
+    let pair = pair_of(bytes)?;
+    buffers::join_with(out, pair.first, pair.second, pair.number);
+    Some(session)
 }
 
-// A script that is cut before the file, or wants another version: its bytes are printed.
-fn run_convert(out: &mut Out, bytes: &[u8]) {
-    let from = 1 + NUMBER;
-    if bytes.len() < from {
-        print::line(out, bytes);
-        return;
+fn couple(out: &mut Out, session: Session, bytes: &[u8]) -> Option<Session> {
+    let pair = pair_of(bytes)?;
+    let after = session.couple(pair.first, pair.second, Cm(pair.number as u64));
+    Some(calls::told(out, b"couple", after))
+}
+
+// None where another version is wanted, too.
+fn convert(out: &mut Out, session: Session, bytes: &[u8]) -> Option<Session> {
+    if bytes.len() < 1 + NUMBER {
+        return None;
     }
+    let wanted = match bytes[0] {
+        1 => Wanted::Version1,
+        2 => Wanted::Version2,
+        _ => return None,
+    };
     let room = number_at(bytes, 1);
-    match bytes[0] {
-        1 => buffers::convert_with(out, &bytes[from..], Wanted::Version1, room),
-        2 => buffers::convert_with(out, &bytes[from..], Wanted::Version2, room),
-        _ => print::line(out, bytes),
-    }
+    buffers::convert_with(out, &bytes[1 + NUMBER..], wanted, room);
+    Some(session)
 }
 
-// The bits of a float, four bytes, low byte first; and what a gauge's step has, a place and three readings.
-const BITS: usize = 2 * NUMBER;
-
-const GAUGE: usize = NUMBER + 3 * BITS;
+// The bytes of a float's bits.
+const BITS: usize = 4;
 
 fn bits_at(bytes: &[u8], at: usize) -> u32
     requires { at + 4 ≤ length bytes.now }
 {
-    let low = number_at(bytes, at);
-    let high = number_at(bytes, at + NUMBER);
-    (low + 65536 * high) as u32
+    u32::from_le_bytes([bytes[at], bytes[at + 1], bytes[at + 2], bytes[at + 3]])
 }
 
-// A script that is cut: its bytes are printed.
-fn run_gauge(out: &mut Out, session: Session, bytes: &[u8]) -> Session
-    requires { Valid session }
-    ensures { Valid result }
-{
-    if bytes.len() < GAUGE {
-        print::line(out, bytes);
-        return session;
+// A place and three readings.
+fn gauge(out: &mut Out, session: Session, bytes: &[u8]) -> Option<Session> {
+    if bytes.len() < NUMBER + 3 * BITS {
+        return None;
     }
     let place = number_at(bytes, 0) as u64;
-    let empty = bits_at(bytes, NUMBER);
-    let loaded = bits_at(bytes, NUMBER + BITS);
-    let after = bits_at(bytes, NUMBER + 2 * BITS);
-    gauging::gauge(out, session, place, empty, loaded, after)
+    let bits = [
+        bits_at(bytes, NUMBER),
+        bits_at(bytes, NUMBER + BITS),
+        bits_at(bytes, NUMBER + 2 * BITS),
+    ];
+    Some(calls::gauge(out, session, place, bits))
 }
 
-fn run_step(out: &mut Out, session: Session, step: Step, bytes: &[u8]) -> Session
-    requires { Valid session }
-    ensures { Valid result }
-{
-    let letter = step.letter;
-    let number = step.number;
-    match letter {
-        b'N' => calls::start(out),
-        b'S' => calls::load_survey(out, session, bytes),
-        b'V' => calls::load_vehicle(out, session, bytes),
-        b'R' => calls::rate(out, session, number as u64),
-        b'J' => calls::judge(out, session, number),
-        b'Y' => run_yard(out, session, bytes),
-        b'B' => run_between(out, session, bytes),
-        b'C' => {
-            run_convert(out, bytes);
-            session
+// The bytes of a step that is cut, or of a title, are printed.
+fn run_step(out: &mut Out, session: Session, letter: u8, number: usize, bytes: &[u8]) -> Session {
+    // Stays: a match and no table of functions, since the steps are the letters of a file and take different numbers and files.
+    let next = match letter {
+        b'N' => {
+            print::line(out, b"new");
+            Some(Session::new())
         }
-        b'M' => {
-            run_join(out, bytes);
-            session
-        }
-        b'G' => run_gauge(out, session, bytes),
-        b'K' => run_couple(out, session, bytes),
-        _ => {
+        b'S' => Some(calls::told(out, b"survey", session.load_survey(bytes))),
+        b'V' => Some(calls::told(out, b"vehicle", session.load_vehicle(bytes))),
+        b'R' => Some(calls::rate(out, session, number as u64)),
+        b'J' => Some(calls::judge(out, session, number)),
+        b'Y' => judge_yard(out, session, bytes),
+        b'B' => judge_between(out, session, bytes),
+        b'C' => convert(out, session, bytes),
+        b'M' => join(out, session, bytes),
+        b'G' => gauge(out, session, bytes),
+        b'K' => couple(out, session, bytes),
+        _ => None,
+    };
+    match next {
+        Some(session) => session,
+        None => {
             print::line(out, bytes);
             session
         }
@@ -229,12 +173,14 @@ fn run_step(out: &mut Out, session: Session, step: Step, bytes: &[u8]) -> Sessio
 
 pub fn run(out: &mut Out, script: &[u8]) {
     let mut session = Session::new();
-    let mut at: usize = 0;
-    while HEAD <= script.len() - at {
-        let step = step_at(script, at);
-        let from = at + HEAD;
-        let end = end_of(step, from, script);
-        session = run_step(out, session, step, &script[from..end]);
-        at = end;
+    let mut rest = script;
+    while HEAD <= rest.len() {
+        let letter = rest[0];
+        let number = number_at(rest, 1);
+        let behind = &rest[HEAD..];
+        // A cut script ends a step's bytes.
+        let length = if has_bytes(letter) { number.min(behind.len()) } else { 0 };
+        session = run_step(out, session, letter, number, &behind[..length]);
+        rest = &behind[length..];
     }
 }

@@ -1,5 +1,6 @@
 // Where the answers are printed. A write that fails is kept and nothing is written after it, so that the steps go on as if all were
 // written; the end tells whether it was.
+use std::fmt::Display;
 use std::io;
 
 #[derive(Drop)]
@@ -22,9 +23,9 @@ impl Out {
         }
     }
 
-    pub fn decimal(&mut self, n: u64) {
+    pub fn print<T: Display + Drop>(&mut self, x: T) {
         if self.written.is_ok() {
-            self.written = self.rt.print(n);
+            self.written = self.rt.print(x);
         }
     }
 
