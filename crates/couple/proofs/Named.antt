@@ -1,8 +1,8 @@
 -- A refusal of the coupling names its fault, and a fault its refusal: the tests in their order come to the plain words. What is coupled then is the
 -- files' vehicles.
 -- Assumes nothing.
-use Rattle.std.specs.Prelude.{Ok, Err}
-use Prim.Native.Nat.{ℕ, ◌+◌, ◌≤◌}
+use Rattle.std.specs.Prelude.{Ok}
+use Prim.Native.Nat.{ℕ, ◌+◌}
 use mathlib.Core.Path.{◌≡◌, sym, ◌∙◌}
 use mathlib.Core.Bool.{Bool, true, ◌&&◌}
 use mathlib.Core.List.{List, [], ◌∷◌}
@@ -101,7 +101,3 @@ module _ (first second : List ℕ) (gap : ℕ) where
 
   pub taken_allowed : (couple first second gap).answer ≡ (Ok tt) → AllowedVehicle (couple first second gap).vehicle
   taken_allowed e = rw (coupled_read (taken_good e)) (vehicle_allowed (taken_good e))
-
-  -- the code has room for what it couples
-  pub room_enough : (couple first second gap).answer ≡ (Ok tt) → (read_vehicle first).vehicle.axles + (read_vehicle second).vehicle.axles ≤ MOST_AXLES
-  room_enough e = let g = taken_good e in rw (read first g.allowed.first_allowed, read second g.allowed.second_allowed) g.axles

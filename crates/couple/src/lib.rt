@@ -3,16 +3,15 @@
 
 ghost use Rattle.std.specs.Prelude.{◌≡◌, ◌+◌, ◌≤◌};
 ghost use Rattle.member.specs.Fields.{MOST_AXLES};
-ghost use Rattle.files.specs.Reading.{first_refusal};
+ghost use Rattle.files.specs.Reading.{taken};
 ghost use Rattle.vehicles.specs.Padded.{Padded};
-ghost use Rattle.couple.specs.Couple.{may_follow, distance_behind, pair_tests, coupled_vehicle, couple};
+ghost use Rattle.couple.specs.Couple.{may_follow, distance_behind, coupled_vehicle, couple};
 
-use files::Reading;
-use files::answer::{or_else, test};
+use files::Refusal;
+use files::fault::Fault;
 use member::record::{MOST_AXLES, Vehicle};
 use section::Cm;
-use vehicles::VehicleRead;
-use vehicles::file::{blank_vehicle, read_vehicle};
+use vehicles::file::read_vehicle;
 
 // The greatest gap, in centimetres.
 const MOST_GAP: u64 = 2000;
@@ -27,16 +26,6 @@ fn may_follow(first: Vehicle, second: Vehicle, gap: Cm) -> bool
     class & track & stated
 }
 
-// 7, then 3 for more axles than a vehicle may have.
-fn pair_answer(first: Vehicle, second: Vehicle, gap: Cm) -> Reading
-    requires { (first.axles ≤ MOST_AXLES) × (second.axles ≤ MOST_AXLES) }
-    ensures { result ≡ first_refusal (pair_tests first second gap.0) }
-{
-    let axles = first.axles + second.axles;
-    let alike = test(7, may_follow(first, second, gap));
-    or_else(alike, test(3, axles <= MOST_AXLES))
-}
-
 // How far the second's axle of this index stands behind the axle in front. In its own file the first has none in front, so it stands the gap behind.
 fn distance_behind(own: Cm, gap: Cm, axle: usize) -> Cm
     ensures { result.0 ≡ distance_behind own.0 gap.0 axle }
@@ -49,47 +38,30 @@ fn coupled(first: Vehicle, second: Vehicle, gap: Cm) -> Vehicle
     requires { Padded first × (first.axles + second.axles ≤ MOST_AXLES) }
     ensures { result ≡ coupled_vehicle first second gap.0 }
 {
-    let class = first.class;
-    let track = first.track;
-    let ahead = first.axles;
-    let axles = second.axles;
     let mut weights = first.weights;
     let mut distances = first.distances;
-    let mut i: usize = 0;
-    while i < axles {
-        let weight = second.weights[i];
-        let distance = distance_behind(second.distances[i], gap, i);
-        weights[ahead + i] = weight;
-        distances[ahead + i] = distance;
-        i += 1;
+    for i in 0..second.axles {
+        weights[first.axles + i] = second.weights[i];
+        distances[first.axles + i] = distance_behind(second.distances[i], gap, i);
     }
     Vehicle {
-        class,
-        track,
-        axles: ahead + axles,
+        class: first.class,
+        track: first.track,
+        axles: first.axles + second.axles,
         weights,
         distances,
     }
 }
 
 // Two vehicle files of any length, in either version: the coupled vehicle, or the first refusal.
-pub fn couple(first: &[u8], second: &[u8], gap: Cm) -> VehicleRead
-    ensures { result ≡ couple first.now second.now gap.0 }
+pub fn couple(first: &[u8], second: &[u8], gap: Cm) -> Result<Vehicle, Refusal>
+    ensures { result ≡ taken (couple first.now second.now gap.0).answer (couple first.now second.now gap.0).vehicle }
 {
-    let lorry = read_vehicle(first);
-    let trailer = read_vehicle(second);
-    let lorry_answer = lorry.answer;
-    let trailer_answer = trailer.answer;
-    let pair = pair_answer(lorry.vehicle, trailer.vehicle, gap);
-    let answer = or_else(lorry_answer, or_else(trailer_answer, pair));
-    match answer {
-        Reading::Taken => {
-            let vehicle = coupled(lorry.vehicle, trailer.vehicle, gap);
-            VehicleRead { answer, vehicle }
-        }
-        Reading::Refused(_) => {
-            let vehicle = blank_vehicle();
-            VehicleRead { answer, vehicle }
-        }
-    }
+    let lorry = read_vehicle(first)?;
+    let trailer = read_vehicle(second)?;
+    let alike = may_follow(lorry, trailer, gap);
+    let few = lorry.axles + trailer.axles <= MOST_AXLES;
+    Fault::Range.unless(alike)?;
+    Fault::Count.unless(few)?;
+    Ok(coupled(lorry, trailer, gap))
 }

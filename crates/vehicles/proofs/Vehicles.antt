@@ -1,6 +1,6 @@
 -- Reading a vehicle, beside what the document allows: a file is taken exactly when it is allowed, the vehicle then holds the
 -- file's numbers, and a refusal has its number and its place.
-use Rattle.std.specs.Prelude.{Ok, Err}
+use Rattle.std.specs.Prelude.{Result, Ok, Err}
 use Prim.Native.Nat.{ℕ, zero, suc, ◌+◌, ◌-◌, ◌≤◌, ◌<◌}
 use mathlib.Core.Path.{◌≡◌, refl, ap, sym, ◌∙◌}
 use mathlib.Core.List.{List, [], ◌∷◌}
@@ -12,14 +12,13 @@ use borrow.Author.Tests.{lt-leb, ne_eqb}
 use Rattle.section.specs.Units.{weight, distance}
 use Rattle.member.specs.declared.record.Vehicle.{Vehicle}
 use Rattle.member.specs.Format.{Range, ◌‥◌, In, class_range, track_range, later_range, AllowedVehicle}
-use Rattle.files.specs.Reading.{Reading, ◌unless◌, first_of, first_fault, is_in}
+use Rattle.files.specs.Reading.{◌unless◌, first_of, first_fault, taken, is_in}
 use Rattle.files.specs.Header.{version_of, header_fault}
 use Rattle.member.specs.Fields.{MOST_AXLES}
-use Rattle.vehicles.specs.VehicleFile.{VEHICLE_HEADER, AXLE_FIELDS, WEIGHT, DISTANCE, axle_size, axles_of, class_of, track_of, weight_at, distance_at, weights_in, axle_range, vehicle_header, field_within, axle_within, axle_fault, axle_faults, vehicle_answer, blank_vehicle, vehicle_of, vehicle_by, read_vehicle_of}
+use Rattle.vehicles.specs.VehicleFile.{VEHICLE_HEADER, AXLE_FIELDS, WEIGHT, DISTANCE, axle_size, axles_of, class_of, track_of, weight_at, distance_at, weights_in, axle_range, vehicle_header, field_within, axle_within, axle_fault, axle_faults, vehicle_answer, blank_vehicle, vehicle_of, read_vehicle_of}
 use Rattle.vehicles.specs.Allowed.{AllowedVehicleOf}
 use Rattle.vehicles.specs.Refused.{FieldGood, VehicleHeaded, Fronted, FrontFault, wrong_header, wrong_class_or_track, FirstAxle, VehicleRefusalOf}
 use Rattle.files.specs.declared.Refusal.{Refusal}
-use Rattle.vehicles.specs.VehicleFile.{VehicleRead}
 use Rattle.section.proofs.Table.{all_at}
 use Rattle.files.proofs.Tests.{in_range, range_in, refuted, refutes, all_of, all_failing, all_fails, passed}
 use Rattle.files.proofs.Each.{length_each, getD_each}
@@ -80,10 +79,14 @@ module _ (versions : Range) (bytes : List ℕ) where
   front_named n e some =
       ⊎_elim (λ h. absurd (some (sym e ∙ front_clear versions bytes h))) (λ f. rw e at f) (front_case versions bytes)
 
--- the reading is its answer with the vehicle that belongs to it
-pub read_as : (versions : Range) (bytes : List ℕ) (answer : Reading) (vehicle : Vehicle) → answer ≡ vehicle_answer versions bytes → vehicle ≡ vehicle_by answer bytes → ◌≡◌ {A = VehicleRead} (record { answer = answer; vehicle = vehicle }) (read_vehicle_of versions bytes)
+-- what is read: the vehicle where the tests find nothing, else their refusal
+pub read_ok : (versions : Range) (bytes : List ℕ) → vehicle_answer versions bytes ≡ Ok tt → ◌≡◌ {A = Result Vehicle Refusal} (Ok (vehicle_of bytes)) (taken (read_vehicle_of versions bytes).answer (read_vehicle_of versions bytes).vehicle)
 unfolding read_vehicle_of
-read_as versions bytes answer vehicle a v = rw (v, a)
+read_ok versions bytes e = rw e
+
+pub read_err : (versions : Range) (bytes : List ℕ) (r : Refusal) → vehicle_answer versions bytes ≡ Err r → ◌≡◌ {A = Result Vehicle Refusal} (Err r) (taken (read_vehicle_of versions bytes).answer (read_vehicle_of versions bytes).vehicle)
+unfolding read_vehicle_of
+read_err versions bytes r e = rw e
 
 -- an axle has no fault exactly where each of its fields is in its range
 pub axle_ranges : (bytes : List ℕ) (i : ℕ) → axle_fault bytes i ≡ 0 → (f : ℕ) → f < AXLE_FIELDS → FieldGood bytes i f

@@ -1,11 +1,11 @@
 // An axle of the file: weight, then distance from the axle in front. The version decides how many bytes a weight has.
 ghost use Rattle.std.specs.Prelude.{◌≡◌, ◌+◌, ◌*◌, ◌≤◌, ◌<◌, length};
 ghost use Rattle.member.specs.Fields.{MOST_AXLES};
-ghost use Rattle.files.specs.Words.{byte_at, number_at};
+ghost use Rattle.files.specs.Words.{number_at};
 ghost use Rattle.vehicles.specs.VehicleFile.{VEHICLE_HEADER, LONGEST_AXLE, weight_bytes, axle_size, HasAxle, weight_at, distance_at, axle_field, weights_in, axle_range};
 
 use files::limits::Limits;
-use files::words::{wide, wider, word_at};
+use files::words::word_at;
 
 // The letters, the version, class, track and count.
 pub const HEADER: usize = 9;
@@ -20,7 +20,10 @@ pub const DISTANCE: usize = 1;
 
 pub const AXLE_FIELDS: usize = 2;
 
-const MOST_DISTANCE: u32 = 2000;
+// "0 for the first, 1..2000 after"
+const NO_DISTANCE: Limits = Limits { low: 0, high: 0 };
+
+const DISTANCES: Limits = Limits { low: 1, high: 2000 };
 
 // How many bytes a weight has.
 pub fn weight_bytes(version: u16) -> usize
@@ -38,24 +41,12 @@ pub fn axle_size(version: u16) -> usize
     weight_bytes(version) + 2
 }
 
-fn byte_at(bytes: &[u8], at: usize) -> u32
-    requires { at < length bytes.now }
-    ensures is { result ≡ byte_at bytes.now at }
-    ensures cap { result < 256 }
-{
-    wider(wide(bytes[at]))
-}
-
 // The u32 at a place, its low byte first.
 fn long_at(bytes: &[u8], at: usize) -> u32
     requires { at + 3 < length bytes.now }
     ensures { result ≡ number_at 4 bytes.now at }
 {
-    let first = byte_at(bytes, at);
-    let second = byte_at(bytes, at + 1);
-    let third = byte_at(bytes, at + 2);
-    let fourth = byte_at(bytes, at + 3);
-    first + 256 * second + 65536 * third + 16777216 * fourth
+    u32::from_le_bytes([bytes[at], bytes[at + 1], bytes[at + 2], bytes[at + 3]])
 }
 
 // Where an axle begins.
@@ -74,7 +65,7 @@ fn weight_at(bytes: &[u8], version: u16, axle: usize) -> u32
     if version == 2 {
         long_at(bytes, at)
     } else {
-        wider(word_at(bytes, at))
+        u32::from(word_at(bytes, at))
     }
 }
 
@@ -83,7 +74,7 @@ fn distance_at(bytes: &[u8], version: u16, axle: usize) -> u32
     ensures { result ≡ distance_at bytes.now axle }
 {
     let at = axle_at(version, axle);
-    wider(word_at(bytes, at + weight_bytes(version)))
+    u32::from(word_at(bytes, at + weight_bytes(version)))
 }
 
 // The number in a field of an axle.
@@ -113,11 +104,5 @@ pub fn axle_limits(version: u16, axle: usize, field: usize) -> Limits
         let high = most_weight(version);
         return Limits { low: 1, high };
     }
-    if axle == 0 {
-        return Limits { low: 0, high: 0 };
-    }
-    Limits {
-        low: 1,
-        high: MOST_DISTANCE,
-    }
+    if axle == 0 { NO_DISTANCE } else { DISTANCES }
 }

@@ -5,13 +5,3 @@
 pub mod axle;
 pub mod file;
 pub mod yard;
-
-use files::Reading;
-use member::record::Vehicle;
-
-// The vehicle is blank where the file is refused.
-#[derive(Clone, Copy)]
-pub struct VehicleRead {
-    pub answer: Reading,
-    pub vehicle: Vehicle,
-}

@@ -3,7 +3,7 @@ ghost use Rattle.std.specs.Prelude.{◌≡◌, min, length};
 ghost use Rattle.vehicles.specs.YardFile.{own_length};
 
 use crate::axle::{HEADER, axle_size};
-use files::words::{wide, word_at};
+use files::words::word_at;
 
 // The most vehicles of a yard.
 pub const MOST_VEHICLES: usize = 32;
@@ -17,6 +17,6 @@ pub fn vehicle_length(bytes: &[u8]) -> usize
         return left;
     }
     let size = axle_size(word_at(bytes, 3));
-    let own = HEADER + size * (wide(bytes[8]) as usize);
-    if own < left { own } else { left }
+    let own = HEADER + size * usize::from(bytes[8]);
+    own.min(left)
 }

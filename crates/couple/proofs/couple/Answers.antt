@@ -1,42 +1,99 @@
 -- `couple` meets its contract: the tests are the definition's row, and what is coupled is what was read.
 -- Assumes nothing.
+use Rattle.std.specs.Prelude.{Result, Ok, Err}
+use Prim.Native.Nat.{ℕ, ◌≤◌}
 use mathlib.Core.Path.{◌≡◌, sym, ◌∙◌}
-use Rattle.files.specs.Reading.{first_refusal}
+use mathlib.Core.List.{List}
+use native.Mathlib.Omega.{arith}
+use borrow.Author.Tests.{leb-true}
+use Rattle.std.proofs.lemmas.Result.{err_from_is_err_and}
+use Rattle.member.specs.Fields.{MOST_AXLES}
+use Rattle.member.specs.declared.record.Vehicle.{Vehicle}
+use Rattle.files.specs.declared.Refusal.{Refusal}
+use Rattle.files.specs.Reading.{test, first_refusal, taken}
+use Rattle.files.proofs.Faults.{taken_ok, taken_err, test_holds}
+use Rattle.vehicles.specs.VehicleFile.{VEHICLE_VERSIONS, read_vehicle}
 use Rattle.vehicles.proofs.Vehicles.{few_axles, padded_read}
-use Rattle.couple.specs.Couple.{couple_tests, couple}
-use Rattle.couple.proofs.Named.{room_enough}
+use Rattle.couple.specs.Couple.{may_follow, few_enough, coupled_vehicle, couple_tests, couple}
 use Rattle.couple.proofs.couple.Goals as goal
-use Rattle.couple.proofs.couple.Goals.{After-or_else-answer}
+use Rattle.couple.proofs.couple.Goals.{In_ok-lorry, In_ok-trailer, In_ok-unless, In_ok-unless-2}
 
-pub pair_answer-pair-requires : goal.pair_answer-pair-requires
-pair_answer-pair-requires c = (rw c.read_vehicle-lorry.ensures (few_axles _ _), rw c.read_vehicle-trailer.ensures (few_axles _ _))
+-- what the tests find is answered
+module _ (first second : List ℕ) (gap : ℕ) where
+  found : (r : Refusal) → first_refusal (couple_tests first second gap) ≡ Err r → ◌≡◌ {A = Result Vehicle Refusal} (Err r) (taken (couple first second gap).answer (couple first second gap).vehicle)
+  unfolding couple
+  found r e = rw e
 
--- the answer is the definition's
-answered : (c : After-or_else-answer) → let a = c.args in
-    c.or_else-answer.result ≡ first_refusal (couple_tests a.first.now a.second.now a.gap.0)
-answered c =
-    let p = c in
-    rw (c.or_else-answer.ensures, c.or_else.ensures, p.pair_answer-pair.ensures, p.read_vehicle-trailer.ensures, p.read_vehicle-lorry.ensures)
+  clear : first_refusal (couple_tests first second gap) ≡ Ok tt → ◌≡◌ {A = Result Vehicle Refusal} (Ok (coupled_vehicle (read_vehicle first).vehicle (read_vehicle second).vehicle gap)) (taken (couple first second gap).answer (couple first second gap).vehicle)
+  unfolding couple
+  clear e = rw e
 
-pub coupled-vehicle-requires : goal.coupled-vehicle-requires
-unfolding couple
-coupled-vehicle-requires c =
-    let o = c in
-    let r = o in
-    let all = sym (answered (goal.at.coupled-vehicle-requires c).After-or_else-answer) ∙ c.in-Ok.is in
-    (rw r.read_vehicle-lorry.ensures (padded_read _ _), rw (r.read_vehicle-lorry.ensures, r.read_vehicle-trailer.ensures) (room_enough _ _ o.args.gap.0 all))
+-- what was read
+lorry : (c : In_ok-lorry) → ((read_vehicle c.args.first.now).answer ≡ Ok tt) × ((read_vehicle c.args.first.now).vehicle ≡ c.in_ok-lorry.lorry)
+lorry c = taken_ok _ _ _ (sym c.read_vehicle.ensures ∙ c.in_ok-lorry.was)
 
-pub returns-in-Ok : goal.returns-in-Ok
-unfolding couple
-returns-in-Ok c =
-    let e = c in
-    let o = e in
-    let r = o in
-    rw (c.coupled-vehicle.ensures, answered (goal.at.returns-in-Ok c).After-or_else-answer, sym (answered (goal.at.returns-in-Ok c).After-or_else-answer) ∙ e.in-Ok.is, r.read_vehicle-trailer.ensures, r.read_vehicle-lorry.ensures)
+trailer : (c : In_ok-trailer) → ((read_vehicle c.args.second.now).answer ≡ Ok tt) × ((read_vehicle c.args.second.now).vehicle ≡ c.in_ok-trailer.trailer)
+trailer c = taken_ok _ _ _ (sym c.read_vehicle-2.ensures ∙ c.in_ok-trailer.was)
 
-pub returns-in-Err : goal.returns-in-Err
-unfolding couple
-returns-in-Err c =
-    let e = c in
-    let o = e in
-    rw (c.blank_vehicle-vehicle.ensures, answered (goal.at.returns-in-Err c).After-or_else-answer, sym (answered (goal.at.returns-in-Err c).After-or_else-answer) ∙ e.in-Err.is)
+few_first : (c : In_ok-lorry) → c.in_ok-lorry.lorry.axles ≤ MOST_AXLES
+few_first c = rw (lorry c).1 at (few_axles VEHICLE_VERSIONS c.args.first.now)
+
+few_second : (c : In_ok-trailer) → c.in_ok-trailer.trailer.axles ≤ MOST_AXLES
+few_second c = rw (trailer c).1 at (few_axles VEHICLE_VERSIONS c.args.second.now)
+
+pub returns-in_err-lorry : goal.returns-in_err-lorry
+returns-in_err-lorry c =
+    let p = err_from_is_err_and c.from_residual.result c.from_residual.ensures.1 in
+    let own = taken_err _ _ _ (sym c.read_vehicle.ensures ∙ c.in_err-lorry.was) in
+    rw (p.1, p.2) (found _ _ _ _ (rw own))
+
+pub returns-in_err-trailer : goal.returns-in_err-trailer
+returns-in_err-trailer c =
+    let p = err_from_is_err_and c.from_residual-in_err-trailer.result c.from_residual-in_err-trailer.ensures.1 in
+    let own = taken_err _ _ _ (sym c.read_vehicle-2.ensures ∙ c.in_err-trailer.was) in
+    rw (p.1, p.2) (found _ _ _ _ (rw ((lorry (goal.at.returns-in_err-trailer c).In_ok-lorry).0, own)))
+
+pub overflow_add-few : goal.overflow_add-few
+overflow_add-few c =
+    let at = goal.at.overflow_add-few c in
+    record { fits = omega (arith, few_first at.In_ok-lorry, few_second at.In_ok-trailer) }
+
+-- the pair's first test holds
+alike : (c : In_ok-unless) → test 7 (may_follow c.in_ok-lorry.lorry c.in_ok-trailer.trailer c.args.gap.0) ≡ Ok tt
+alike c = let seven : test 7 c.may_follow-alike.result ≡ Ok tt = sym c.unless.ensures ∙ c.in_ok-unless.was in rw c.may_follow-alike.ensures at seven
+
+-- and its second
+enough : (c : In_ok-unless-2) → test 3 (few_enough c.in_ok-lorry.lorry c.in_ok-trailer.trailer) ≡ Ok tt
+enough c = sym c.unless-2.ensures ∙ c.in_ok-unless-2.was
+
+pub returns-in_err-unless : goal.returns-in_err-unless
+returns-in_err-unless c =
+    let at = goal.at.returns-in_err-unless c in
+    let p = err_from_is_err_and c.from_residual-in_err-unless.result c.from_residual-in_err-unless.ensures.1 in
+    let (first, a) = lorry at.In_ok-lorry in
+    let (second, b) = trailer at.In_ok-trailer in
+    let seven : test 7 c.may_follow-alike.result ≡ Err _ = sym c.unless.ensures ∙ c.in_err-unless.was in
+    let differ = rw c.may_follow-alike.ensures at seven in
+    rw (p.1, p.2) (found _ _ _ _ (rw (first, second, a, b, differ)))
+
+pub returns-in_err-unless-2 : goal.returns-in_err-unless-2
+returns-in_err-unless-2 c =
+    let at = goal.at.returns-in_err-unless-2 c in
+    let p = err_from_is_err_and c.from_residual-in_err-unless-2.result c.from_residual-in_err-unless-2.ensures.1 in
+    let (first, a) = lorry at.In_ok-lorry in
+    let (second, b) = trailer at.In_ok-trailer in
+    let three = sym c.unless-2.ensures ∙ c.in_err-unless-2.was in
+    rw (p.1, p.2) (found _ _ _ _ (rw (first, second, a, b, alike at.In_ok-unless, three)))
+
+pub coupled-requires : goal.coupled-requires
+coupled-requires c =
+    let at = goal.at.coupled-requires c in
+    (rw (lorry at.In_ok-lorry).1 at (padded_read VEHICLE_VERSIONS c.args.first.now), leb-true _ _ (test_holds 3 _ (enough at.In_ok-unless-2)))
+
+pub returns : goal.returns
+returns c =
+    let at = goal.at.returns c in
+    let (first, a) = lorry at.In_ok-lorry in
+    let (second, b) = trailer at.In_ok-trailer in
+    let all = clear c.args.first.now c.args.second.now c.args.gap.0 (rw (first, second, a, b, alike at.In_ok-unless, enough at.In_ok-unless-2)) in
+    rw (c.coupled.ensures, ← a, ← b) all

@@ -15,6 +15,6 @@ returns-then-axle-eq0 c =
     let first : c.args.axle ≡ 0 = c.if-axle-eq0.true in
     rw (ne_eqb _ _ c.if-field-eq-WEIGHT.false, eq-eqb _ _ first) (refl, refl)
 
-pub returns : goal.returns
+pub returns-else-axle-eq0 : goal.returns-else-axle-eq0
 unfolding axle_range
-returns c = rw (ne_eqb _ _ c.if-field-eq-WEIGHT.false, ne_eqb _ _ c.if-axle-eq0.false) (refl, refl)
+returns-else-axle-eq0 c = rw (ne_eqb _ _ c.if-field-eq-WEIGHT.false, ne_eqb _ _ c.if-axle-eq0.false) (refl, refl)

@@ -22,4 +22,4 @@ returns c =
     let a = w in
     let s = a in
     let at = rw w.weight_bytes.ensures.is at c.word_at.ensures in
-    distance_behind s.args.bytes.now s.args.axle s.requires.0 a.axle_at-at.ensures (c.wider.ensures ∙ at)
+    distance_behind s.args.bytes.now s.args.axle s.requires.0 a.axle_at-at.ensures (c.from.ensures ∙ at)

@@ -26,4 +26,4 @@ pub returns-else-version-eq2 : goal.returns-else-version-eq2
 returns-else-version-eq2 c =
     let a = c in
     let s = a in
-    weight_of_two s.args.bytes.now s.args.axle s.requires.0 a.axle_at-at.ensures c.if-version-eq2.false (c.wider.ensures ∙ c.word_at.ensures)
+    weight_of_two s.args.bytes.now s.args.axle s.requires.0 a.axle_at-at.ensures c.if-version-eq2.false (c.from.ensures ∙ c.word_at.ensures)

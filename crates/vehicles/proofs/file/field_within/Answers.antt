@@ -5,5 +5,5 @@ use Rattle.vehicles.proofs.file.field_within.Goals as goal
 pub returns : goal.returns
 unfolding field_within
 returns c =
-    let l = c.axle_limits-range.ensures in
-    rw (l.0, l.1, c.axle_field.ensures, c.requires.0) at c.inside.ensures
+    let l = c.axle_limits.ensures in
+    rw (l.0, l.1, c.axle_field.ensures, c.requires.0) at c.contains.ensures

@@ -12,48 +12,31 @@ use Rattle.vehicles.proofs.Axles.{weight_field, distance_field, axle_within_lem}
 use Rattle.vehicles.proofs.file.vehicle_of.Goals as goal
 use Rattle.vehicles.proofs.file.vehicle_of.Goals.{In-loop-i}
 
-pub wider-requires : goal.wider-requires
-wider-requires c = tt
-
-pub widest-requires : goal.widest-requires
-widest-requires c = tt
-
 pub loop-i-init : goal.loop-i-init
-loop-i-init c = (omega arith, refl, refl)
+loop-i-init c = (refl, refl)
 
 -- the axle of a turn lies within the file
-inside : (c : In-loop-i) → let a = c in (a.args.version ≡ version_of a.args.bytes.now) × (c.loop-i.i < MOST_AXLES) × (axle_at a.args.bytes.now (c.loop-i.i + 1) ≤ length a.args.bytes.now)
+inside : (c : In-loop-i) → (c.args.version ≡ version_of c.args.bytes.now) × (c.loop-i.i < MOST_AXLES) × (axle_at c.args.bytes.now (c.loop-i.i + 1) ≤ length c.args.bytes.now)
 inside c =
-    let a = c in
-    let below : c.loop-i.i < a.args.axles = omega arith in
-    (a.requires.0, omega (arith, a.requires.2), omega (arith, a.requires.3, axle_within_lem (version_of a.args.bytes.now) below))
+    let below : c.loop-i.i < c.args.axles = omega arith in
+    (c.requires.0, omega (arith, c.requires.2), omega (arith, c.requires.3, axle_within_lem (version_of c.args.bytes.now) below))
 
 pub axle_field-requires : goal.axle_field-requires
 axle_field-requires c = inside (goal.at.axle_field-requires c).In-loop-i
 
-pub widest-requires-in-loop-i : goal.widest-requires-in-loop-i
-widest-requires-in-loop-i c = tt
-
 pub axle_field-requires-in-loop-i : goal.axle_field-requires-in-loop-i
 axle_field-requires-in-loop-i c = inside (goal.at.axle_field-requires-in-loop-i c).In-loop-i
 
-pub widest-requires-in-loop-i-2 : goal.widest-requires-in-loop-i-2
-widest-requires-in-loop-i-2 c = tt
-
 pub loop-i-preserved : goal.loop-i-preserved
 loop-i-preserved c =
-    let l = c in
-    let b = l.args.bytes.now in
-    let weight = c in
-    let below : l.loop-i.i < MOST_AXLES = omega arith in (
-      omega arith,
-      rw (l.loop-i.invariant.1, weight.widest-in-loop-i.ensures, weight.axle_field.ensures, weight_field b l.loop-i.i) (store_each (λ k. kgf (weight_at b k)) MOST_AXLES l.loop-i.i (kgf 0) below),
-      rw (l.loop-i.invariant.2, c.widest-in-loop-i-2.ensures, c.axle_field-in-loop-i.ensures, distance_field b l.loop-i.i) (store_each (λ k. centimetres (distance_at b k)) MOST_AXLES l.loop-i.i (centimetres 0) below),
+    let l = c.loop-i in
+    let b = c.args.bytes.now in
+    let below : l.i < MOST_AXLES = omega (arith, c.requires.2) in (
+      rw (l.invariant.0, c.from.ensures, c.axle_field.ensures, weight_field b l.i) (store_each (λ k. kgf (weight_at b k)) MOST_AXLES l.i (kgf 0) below),
+      rw (l.invariant.1, c.from-in-loop-i.ensures, c.axle_field-in-loop-i.ensures, distance_field b l.i) (store_each (λ k. centimetres (distance_at b k)) MOST_AXLES l.i (centimetres 0) below),
     )
 
 pub returns : goal.returns
 returns c =
-    let l = c in
-    let t = l in
-    let e : l.loop-i.i ≡ axles_of t.args.bytes.now = omega (arith, t.requires.1) in
-    rw (t.widest.ensures, t.wider.ensures, t.word_at.ensures, rw e at l.loop-i.invariant.1, rw e at l.loop-i.invariant.2, t.requires.1)
+    let e : c.loop-i.i ≡ axles_of c.args.bytes.now = omega (arith, c.requires.1) in
+    rw (c.from-2.ensures, c.word_at.ensures, rw e at c.loop-i.invariant.0, rw e at c.loop-i.invariant.1, c.requires.1)

@@ -1,5 +1,5 @@
 -- `vehicle_of` meets its contract. The invariant: the first i weights and distances are the file's, and 0 stands after them.
-use Prim.Native.Nat.{◌-◌, ◌≤◌}
+use Prim.Native.Nat.{◌-◌}
 use mathlib.Core.Path.{◌≡◌}
 use mathlib.Core.List.{◌++◌}
 use lib.ListN.{replicate}
@@ -10,7 +10,4 @@ use Rattle.vehicles.specs.VehicleFile.{weight_at, distance_at}
 use Rattle.vehicles.proofs.file.vehicle_of.Given as goal
 
 abbrev pub invariant-loop-i : goal.invariant-loop-i
-invariant-loop-i l = (l.i ≤ l.axles) × (l.weights ≡ each (λ k. kgf (weight_at l.bytes k)) l.i ++ replicate (MOST_AXLES - l.i) (kgf 0)) × (l.distances ≡ each (λ k. centimetres (distance_at l.bytes k)) l.i ++ replicate (MOST_AXLES - l.i) (centimetres 0))
-
-abbrev pub decreases-loop-i : goal.decreases-loop-i
-decreases-loop-i l = l.axles - l.i
+invariant-loop-i l = (l.weights ≡ each (λ k. kgf (weight_at l.bytes k)) l.i ++ replicate (MOST_AXLES - l.i) (kgf 0)) × (l.distances ≡ each (λ k. centimetres (distance_at l.bytes k)) l.i ++ replicate (MOST_AXLES - l.i) (centimetres 0))
