@@ -1,10 +1,9 @@
 // The input's two parts, and both loaded.
-ghost use Rattle.std.specs.Prelude.{◌≡◌, ◌≤◌, ◌<◌, length};
+ghost use Rattle.std.specs.Prelude.{◌≡◌, ◌≤◌, length};
 ghost use Rattle.session.specs.Answers.{loaded};
-ghost use Rattle.session.specs.Calls.{Valid};
 ghost use Rattle.bridge.specs.Input.{ENOUGH, LoadedFrom, survey_length, load_input};
 
-use session::{AfterLoad, load_files};
+use session::{After, load_files};
 use surveys::file::{HEADER, RECORD};
 
 // The longest survey and the longest vehicle that a count byte can call for, and one byte more.
@@ -13,13 +12,6 @@ pub const ENOUGH: usize = HEADER
     + (vehicles::axle::HEADER + vehicles::axle::LONGEST_AXLE * 255)
     + 1;
 
-fn wide(x: u8) -> usize
-    ensures is { result ≡ x }
-    ensures byte { result < 256 }
-{
-    x as usize
-}
-
 // How many bytes of the input are the survey: the last byte of its header is the count of records.
 fn survey_length(input: &[u8]) -> usize
     ensures { result ≡ survey_length input.now }
@@ -27,29 +19,23 @@ fn survey_length(input: &[u8]) -> usize
     if input.len() < HEADER {
         return input.len();
     }
-    let called = HEADER + RECORD * wide(input[HEADER - 1]);
-    if called < input.len() {
-        called
-    } else {
-        input.len()
-    }
+    let called = HEADER + RECORD * usize::from(input[HEADER - 1]);
+    input.len().min(called)
 }
 
 // Loads the input of which the first n bytes of a buffer were read, or as many as the buffer holds: what is beyond them changes
 // nothing.
-pub fn load_read(buffer: &[u8], n: usize) -> AfterLoad
+pub fn load_read(buffer: &[u8], n: usize) -> After<()>
     requires { (ENOUGH ≤ length buffer.now) × (n ≤ length buffer.now) }
-    ensures is { LoadedFrom buffer.now n (loaded result) }
-    ensures valid { Valid result.session }
+    ensures { LoadedFrom buffer.now n (loaded result) }
 {
     load_input(&buffer[..n])
 }
 
 // Loads the survey, and where it is taken the vehicle.
-fn load_input(input: &[u8]) -> AfterLoad
-    ensures is { loaded result ≡ load_input input.now }
-    ensures valid { Valid result.session }
+fn load_input(input: &[u8]) -> After<()>
+    ensures { loaded result ≡ load_input input.now }
 {
-    let n = survey_length(input);
-    load_files(&input[..n], &input[n..])
+    let (survey, vehicle) = input.split_at(survey_length(input));
+    load_files(survey, vehicle)
 }
