@@ -1,6 +1,6 @@
 -- What the tests of the state say where they find no fault, and that every call leaves a valid session.
 -- Assumes nothing.
-use Rattle.std.specs.Prelude.{Ok, Err}
+use Rattle.std.specs.Prelude.{Result, Ok, Err, IfOk}
 use Prim.Native.Nat.{ℕ, ◌-◌, ◌*◌, ◌≤◌, ◌<◌}
 use mathlib.Core.Path.{◌≡◌, refl, sym, ◌∙◌}
 use mathlib.Core.Bool.{not}
@@ -10,13 +10,13 @@ use native.Mathlib.Omega.{arith}
 use Rattle.member.specs.Fields.{MOST_MEMBERS}
 use lib.Dec.{eqb, leb}
 use lib.Seq.{get_or-take}
-use borrow.Author.Tests.{ne_eqb, le-leb, leb-true}
+use borrow.Author.Tests.{eq-eqb, ne_eqb, le-leb, leb-true}
 use Rattle.member.specs.Format.{AllowedMember, AllowedVehicle, In, ◌‥◌}
 use Rattle.member.specs.declared.record.Member.{Member}
 use Rattle.member.specs.declared.record.Vehicle.{Vehicle}
 use Rattle.rating.specs.Judgement.{judgement_of}
 use Rattle.rating.specs.Surveyed.{AllowedSurvey, member_at}
-use Rattle.files.specs.Reading.{◌unless◌, is_in}
+use Rattle.files.specs.Reading.{Reading, ◌unless◌, is_in, taken}
 use Rattle.surveys.specs.SurveyFile.{read_survey}
 use Rattle.vehicles.specs.VehicleFile.{VEHICLE_VERSIONS, read_vehicle, blank_vehicle}
 use Rattle.files.specs.declared.Refusal.{Refusal}
@@ -24,10 +24,10 @@ use Rattle.files.proofs.Faults.{reading_case}
 use Rattle.files.proofs.Tests.{not_none, none, passed, in_range, range_in, refutes}
 use Rattle.vehicles.proofs.Vehicles.{taken_vehicle_allowed}
 use Rattle.between.proofs.Pairs.{taken_survey_allowed}
-use Rattle.session.specs.Answers.{Values, refused_by, judgement_answer}
-use Rattle.session.specs.Calls.{Valid, new_session, members, state_fault, rate_fault, judge_fault, load_survey, load_vehicle, judge, load_files, stored_vehicle, then_judge, judge_files}
+use Rattle.session.specs.Answers.{Answer, Values, refused_by, judgement_answer}
+use Rattle.session.specs.Calls.{Valid, new_session, members, state_fault, rate_fault, judge_fault, load_survey, load_vehicle, judge, load_files, unless_fault, stored_vehicle, then_judge, judge_files}
 use Rattle.session.specs.Yard.{alone}
-use Rattle.session.specs.Place.{AtPlace, fault_at}
+use Rattle.session.specs.Place.{AtPlace, NotAtPlace, fault_at}
 use Rattle.session.specs.Loaded.{Session}
 
 -- a survey and a vehicle are loaded
@@ -66,6 +66,11 @@ valid_new = record { survey = λ h. absurd (omega arith); vehicle = λ h. absurd
 pub valid_survey : (s : Session) (bytes : List ℕ) → Valid s → (read_survey bytes).answer ≡ (Ok tt) → Valid (record { survey = (read_survey bytes).survey; vehicle = s.vehicle })
 valid_survey s bytes h e = record { survey = λ l. taken_survey_allowed bytes e; vehicle = h.vehicle }
 
+-- what was read, where it is taken, is allowed
+pub allowed_read : (a : Reading) (v : Vehicle) {r : Result Vehicle Refusal} → r ≡ taken a v → (a ≡ Ok tt → AllowedVehicle v) → IfOk r AllowedVehicle
+allowed_read (Ok tt) v e h = rw e (h refl)
+allowed_read (Err f) v e h = rw e tt
+
 pub valid_with : (s : Session) (v : Vehicle) → Valid s → AllowedVehicle v → Valid (record { survey = s.survey; vehicle = v })
 valid_with s v h a = record { survey = h.survey; vehicle = λ l. a }
 
@@ -101,6 +106,13 @@ module _ (s : Session) (place : ℕ) (valid : Valid s) (clear : fault_at s place
         member = rw e (survey_allowed.members (place - 1) inside);
         vehicle = valid.vehicle passed_tests.0.vehicle;
       }
+
+-- the answer of a call on a place, by what was found there
+pub place_clear : (s : Session) (place : ℕ) (m : Member) (a : Answer) → AtPlace s place m → a ≡ unless_fault (fault_at s place) a
+place_clear s place m a h = rw (eq-eqb (fault_at s place) 0 h.clear)
+
+pub place_faulty : (s : Session) (place : ℕ) (f : Refusal) (a : Answer) → NotAtPlace s place f → refused_by f ≡ unless_fault (fault_at s place) a
+place_faulty s place f a h = rw (h.is, ne_eqb (fault_at s place) 0 h.fault)
 
 -- a load by its answer: what was read is stored, or nothing is
 module _ (s : Session) (bytes : List ℕ) where

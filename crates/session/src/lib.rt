@@ -3,12 +3,13 @@
 // goes in by value and comes back beside the answer.
 #![tactic(auto)]
 
-ghost use Rattle.std.specs.Prelude.{◌≡◌, ◌≤◌};
+ghost use Rattle.std.specs.Prelude.{◌≡◌, ◌≤◌, IfOk};
 ghost use Rattle.session.specs.Answers.{verdict_number, loaded, rated, judged, rate_answer, judge_answer};
 ghost use Rattle.files.specs.Fault.{fault_of};
-ghost use Rattle.files.specs.Reading.{taken};
+ghost use Rattle.files.specs.Reading.{Reading, taken};
 ghost use Rattle.member.specs.Fields.{MOST_MEMBERS};
 ghost use Rattle.member.specs.Format.{AllowedVehicle};
+ghost use Rattle.member.specs.declared.record.Vehicle.{Vehicle};
 ghost use Rattle.session.specs.Calls.{new_session, load_survey, stored_vehicle, load_vehicle, state_fault, rate_fault, judge_fault, rate, judge, judge_list, load_files, judge_files};
 ghost use Rattle.session.specs.Place.{MemberFound};
 ghost use Rattle.session.specs.Yard.{alone};
@@ -120,7 +121,7 @@ impl Session {
 // The session with a vehicle that was read, of one file or of two: one that is taken replaces the vehicle and nothing else.
 fn store_vehicle(session: Session, read: Result<Vehicle, Refusal>) -> After<()>
     requires { IfOk read AllowedVehicle }
-    ensures { loaded result ≡ stored_vehicle session (answer_of read) (vehicle_of read) }
+    ensures { (answer : Reading) → (vehicle : Vehicle) → read ≡ taken answer vehicle → loaded result ≡ stored_vehicle session answer vehicle }
 {
     match read {
         Ok(vehicle) => After {
@@ -138,6 +139,7 @@ fn store_vehicle(session: Session, read: Result<Vehicle, Refusal>) -> After<()>
 }
 
 // No survey, no vehicle.
+#[tactic(auto, unfolding(crate::specs::Calls::state_fault))]
 fn state_fault(members: usize, axles: usize) -> Result<(), Fault>
     ensures { fault_of result ≡ state_fault members axles }
 {
@@ -151,6 +153,7 @@ fn state_fault(members: usize, axles: usize) -> Result<(), Fault>
 }
 
 // No survey, no vehicle, no such place.
+#[tactic(auto, unfolding(crate::specs::Calls::rate_fault))]
 fn rate_fault(members: usize, axles: usize, place: u64) -> Result<(), Fault>
     ensures { fault_of result ≡ rate_fault members axles place }
 {
@@ -162,6 +165,7 @@ fn rate_fault(members: usize, axles: usize, place: u64) -> Result<(), Fault>
 }
 
 // No survey, no vehicle, a list shorter than two entries a member. So few members that twice their number does not overflow.
+#[tactic(auto, unfolding(crate::specs::Calls::judge_fault))]
 fn judge_fault(members: usize, axles: usize, entries: usize) -> Result<(), Fault>
     requires { members ≤ MOST_MEMBERS }
     ensures { fault_of result ≡ judge_fault members axles entries }

@@ -123,10 +123,11 @@ pub fn yard_answers(session: &Session, yard: &[u8], room: usize) -> Result<YardA
     let count = usize::from(yard[0]);
     let run = judge_each(session, yard, count)?;
     end_fault(yard.len() - run.at, count, room)?;
+    let answers = run.answers;
     Ok(YardAnswers {
         passes: run.passes,
         count,
-        answers: run.answers,
+        answers,
     })
 }
 

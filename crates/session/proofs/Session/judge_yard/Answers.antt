@@ -1,9 +1,7 @@
--- `Session::judge_yard` meets its contract: what was found and what the list then holds give the three clauses.
--- Assumes nothing.
-use Rattle.session.proofs.YardWritten.{yard_written}
+-- `Session::judge_yard` meets its contract: the session is handed back as it came.
+use Rattle.session.specs.Yard.{judge_yard}
 use Rattle.session.proofs.Session.judge_yard.Goals as goal
 
-pub returns : goal.returns
-returns c =
-    let said = yard_written c.args.self c.args.yard.now c.args.list.now c.yard_answers-found.result c.put_all.new.list c.yard_answers-found.ensures c.put_all.ensures in
-    record { is = said.0; list = said.1.0; valid = said.1.1 }
+pub returns-clause-is : goal.returns-clause-is
+unfolding judge_yard
+returns-clause-is c = rw c.judge_into-answer.ensures.is

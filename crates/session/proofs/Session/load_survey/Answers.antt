@@ -1,23 +1,21 @@
 -- `Session::load_survey` meets its contract: what was read decides, and only a file that was taken is stored.
--- Assumes nothing.
+use mathlib.Core.Path.{◌≡◌, sym, ◌∙◌}
+use Rattle.std.specs.Prelude.{Ok, Err}
+use Rattle.files.proofs.Faults.{taken_ok, taken_err}
 use Rattle.session.proofs.State.{survey_stored, survey_kept, valid_survey}
 use Rattle.session.proofs.Session.load_survey.Goals as goal
 
+pub invariant_of-result : goal.invariant_of-result
+invariant_of-result c =
+    let t = taken_ok _ _ _ (sym c.read_survey.ensures ∙ c.in-Ok.is) in
+    rw (← t.1) (valid_survey _ _ c.self.invariant t.0)
+
 pub returns-in-Ok : goal.returns-in-Ok
 returns-in-Ok c =
-    let r = c.read_survey-read in
-    let t = c.in-Ok.is in
-    let a = c.args in
-    record {
-      is = survey_stored a.self a.bytes.now r.result r.ensures t;
-      valid = rw r.ensures (valid_survey a.self a.bytes.now c.requires (rw r.ensures at t));
-    }
+    let t = taken_ok _ _ _ (sym c.read_survey.ensures ∙ c.in-Ok.is) in
+    rw (survey_stored c.args.self c.args.bytes.now t.0, t.1, ← c.self.view_is)
 
 pub returns-in-Err : goal.returns-in-Err
 returns-in-Err c =
-    let r = c.read_survey-read in
-    let a = c.args in
-    record {
-      is = survey_kept a.self a.bytes.now r.result _ r.ensures c.in-Err.is;
-      valid = c.requires;
-    }
+    let t = taken_err _ _ _ (sym c.read_survey.ensures ∙ c.in-Err.is) in
+    rw (survey_kept c.args.self c.args.bytes.now _ t)

@@ -1,48 +1,36 @@
--- `session::yard::with_vehicle` meets its contract: a refusal stays, and else the next file is cut off what is left and judged.
--- Assumes nothing.
-use Rattle.std.specs.Prelude.{Ok, Err}
-use mathlib.Core.Path.{◌≡◌, ◌∙◌}
+-- `with_vehicle` meets its contract: the next file is cut off what is left and judged.
+use Prim.Native.Nat.{ℕ, ◌+◌, ◌-◌}
+use mathlib.Core.List.{List}
+use mathlib.Core.Path.{◌≡◌, sym, ap, ◌∙◌}
+use lib.ListN.{take, drop}
+use Rattle.std.proofs.lemmas.Result.{err_from_is_err_and}
 use Rattle.vehicles.specs.VehicleFile.{blank_vehicle}
-use Rattle.session.specs.YardRun.{Ran, Going}
+use Rattle.session.specs.Answers.{judge_answer}
+use Rattle.session.specs.Loaded.{Session}
+use Rattle.session.specs.Yard.{alone}
 use Rattle.session.proofs.State.{alone_by_survey}
-use Rattle.session.proofs.YardRuns.{ran_refused, file_within, ran_vehicle}
+use Rattle.session.proofs.YardRuns.{file_within, judged_more, refused_more}
 use Rattle.session.proofs.yard.with_vehicle.Goals as goal
-use Rattle.session.proofs.yard.with_vehicle.Goals.{In-Ok}
+use Rattle.session.proofs.yard.with_vehicle.Goals.{After-judge_vehicle}
 
--- what is kept of the vehicles before this one, of which none is refused
-start : (c : In-Ok) → let a = c.args in Ran a.session a.yard.now a.i a.run
-start c = c.requires.2
+-- the vehicle is judged alone, whatever vehicle is loaded
+abbrev file : After-judge_vehicle → List ℕ
+file c = let a = c.args in take (a.run.at + c.vehicle_length.result - a.run.at) (drop a.run.at a.yard.now)
 
-taken : (c : In-Ok) → c.args.run.answer ≡ (Ok tt)
-taken c = c.in-Ok.is
-
-going : (c : In-Ok) → let a = c.args in Going a.session a.yard.now a.i a.run
-going c = (start c).going (taken c)
-
-pub slice_bounds-vehicle_length-count : goal.slice_bounds-vehicle_length-count
-slice_bounds-vehicle_length-count c = (going (goal.at.slice_bounds-vehicle_length-count c).In-Ok).within
-
-pub slice_bounds-vehicle_length-start : goal.slice_bounds-vehicle_length-start
-slice_bounds-vehicle_length-start c = (going (goal.at.slice_bounds-vehicle_length-start c).In-Ok).within
-
-pub vehicle_length-requires : goal.vehicle_length-requires
-vehicle_length-requires c = tt
+judged : (c : After-judge_vehicle) → judge_answer c.judge_vehicle.result ≡ alone c.args.session.now (file c)
+judged c =
+    c.judge_vehicle.ensures ∙ ap (λ (s : Session). alone (record { survey = s.survey; vehicle = blank_vehicle }) (file c)) c.session.view_is ∙ alone_by_survey c.args.session.now (file c) blank_vehicle
 
 pub slice_bounds-judge_vehicle-end : goal.slice_bounds-judge_vehicle-end
-slice_bounds-judge_vehicle-end c = file_within _ _ _ _ (start (goal.at.slice_bounds-judge_vehicle-end c).In-Ok) (taken (goal.at.slice_bounds-judge_vehicle-end c).In-Ok) _ c.vehicle_length.ensures
+slice_bounds-judge_vehicle-end c = file_within _ _ _ _ c.requires.2 _ c.vehicle_length.ensures
 
-pub judge_vehicle-judged-requires : goal.judge_vehicle-judged-requires
-judge_vehicle-judged-requires c = c.requires.0
+pub returns-in_err-j : goal.returns-in_err-j
+returns-in_err-j c =
+    let p = err_from_is_err_and c.from_residual.result c.from_residual.ensures.1 in
+    let own = judged (goal.at.returns-in_err-j c).After-judge_vehicle in
+    rw (p.1, p.2) (refused_more _ _ _ _ c.requires.2 _ c.vehicle_length.ensures _ (sym (ap judge_answer c.in_err-j.was) ∙ own))
 
-pub with_answer-requires : goal.with_answer-requires
-with_answer-requires c =
-    let b = c in
-    (b.requires.1, (start (goal.at.with_answer-requires c).In-Ok).sized, (going (goal.at.with_answer-requires c).In-Ok).few)
-
-pub returns-in-Ok : goal.returns-in-Ok
-returns-in-Ok c =
-    let b = c in
-    rw c.with_answer.ensures (ran_vehicle _ _ _ _ (start (goal.at.returns-in-Ok c).In-Ok) (taken (goal.at.returns-in-Ok c).In-Ok) _ c.judge_vehicle-judged.result b.requires.1 c.vehicle_length.ensures (c.judge_vehicle-judged.ensures ∙ alone_by_survey _ _ blank_vehicle))
-
-pub returns-in-Err : goal.returns-in-Err
-returns-in-Err c = ran_refused _ _ _ _ _ c.requires.2 c.in-Err.is
+pub returns : goal.returns
+returns c =
+    let own = judged (goal.at.returns c).After-judge_vehicle in
+    rw c.with_answer.ensures (judged_more _ _ _ _ c.requires.2 _ c.vehicle_length.ensures _ c.requires.1 (sym (ap judge_answer c.in_ok-j.was) ∙ own))
