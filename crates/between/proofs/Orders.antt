@@ -1,6 +1,6 @@
 -- Records and surveys in order: the tests come to the plain words.
 -- Assumes nothing.
-use Rattle.std.specs.Prelude.{Ok, Err}
+use Rattle.std.specs.Prelude.{Ok}
 use Prim.Native.Nat.{ℕ, ◌+◌, ◌≤◌, ◌<◌}
 use mathlib.Core.Path.{◌≡◌, refl, sym, ◌∙◌}
 use mathlib.Core.Bool.{Bool, true, false, not, ◌&&◌, ◌||◌, and-true, and-false, or-true, or-false, false≢true}
@@ -8,7 +8,7 @@ use mathlib.Core.List.{List}
 use mathlib.Core.Logic.{◌⊎◌, inl, inr, ⊎_elim}
 use native.Mathlib.Omega.{arith}
 use lib.Dec.{eqb, leb}
-use borrow.Author.Tests.{eqb-true, eq-eqb, le-leb, leb-true}
+use borrow.Author.Tests.{eqb-true, eq-eqb, ne_eqb, le-leb, leb-true}
 use Rattle.section.specs.Choose.{choose}
 use Rattle.section.proofs.Table.{all_at}
 use Rattle.member.specs.Fields.{KIND, CODE, DEAD_LOAD, MU_B, FIELDS, field}
@@ -42,7 +42,7 @@ each_grows rot deck lost dead = rw (and-false, or-false, and-true) (turned rot l
     turned false false c = or-false c
 
 -- what may grow: of kind 7 the dead load alone, of any other kind the section's rot and losses too
-pub may_grow_is : (kind code f : ℕ) → (eqb f DEAD_LOAD || (not (eqb kind 7) && (holds f (rot_fields code) || holds f (lost_fields code)))) ≡ may_grow kind code f
+may_grow_is : (kind code f : ℕ) → (eqb f DEAD_LOAD || (not (eqb kind 7) && (holds f (rot_fields code) || holds f (lost_fields code)))) ≡ may_grow kind code f
 unfolding may_grow must_stay wears rots
 may_grow_is kind code f = go (eqb kind 7) (eqb f DEAD_LOAD) refl
   where
@@ -53,6 +53,16 @@ may_grow_is kind code f = go (eqb kind 7) (eqb f DEAD_LOAD) refl
     go true true e = rw (eqb-true f DEAD_LOAD e, no_rot DEAD_LOAD (inl (omega arith)) code, no_loss DEAD_LOAD (inl (omega arith)) code)
     go true false e = none_grows (holds f (rot_fields code)) (eqb f MU_B && true) (holds f (lost_fields code))
     go false dead e = each_grows (holds f (rot_fields code)) (eqb f MU_B) (holds f (lost_fields code)) dead
+
+-- the same by the code's tests in turn
+pub dead_grows : (kind code f : ℕ) → f ≡ DEAD_LOAD → may_grow kind code f ≡ true
+dead_grows kind code f e = sym (rw (eq-eqb f DEAD_LOAD e) at (may_grow_is kind code f))
+
+pub kept_grows : (kind code f : ℕ) → ¬ (f ≡ DEAD_LOAD) → kind ≡ 7 → may_grow kind code f ≡ false
+kept_grows kind code f other e = sym (rw (ne_eqb f DEAD_LOAD other, eq-eqb kind 7 e) at (may_grow_is kind code f))
+
+pub worn_grows : (kind code f : ℕ) → ¬ (f ≡ DEAD_LOAD) → ¬ (kind ≡ 7) → may_grow kind code f ≡ (holds f (rot_fields code) || holds f (lost_fields code))
+worn_grows kind code f other n = sym (rw (ne_eqb f DEAD_LOAD other, ne_eqb kind 7 n) at (may_grow_is kind code f))
 
 -- the answer by the counts: another count is the refusal, else the first record that is not in order
 module _ (n n' : ℕ) (at at' : ℕ → Member) where

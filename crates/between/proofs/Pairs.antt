@@ -3,16 +3,15 @@
 -- Assumes nothing.
 use Rattle.std.specs.Prelude.{Ok, Err}
 use Prim.Native.Nat.{ℕ, ◌*◌, ◌≤◌, ◌<◌}
-use mathlib.Core.Path.{◌≡◌, refl, sym, ap, ◌∙◌}
-use mathlib.Core.Bool.{not}
+use mathlib.Core.Path.{◌≡◌, sym, ap, ◌∙◌}
 use mathlib.Core.List.{List}
 use native.Mathlib.Decide.{ℕ_discrete}
 use native.Mathlib.Omega.{arith}
-use lib.Dec.{eqb, leb}
 use lib.ListN.{length}
 use lib.Seq.{take_at}
 use borrow.Author.Tests.{leb-true, le-leb, ne_eqb}
 use Rattle.member.specs.Fields.{MOST_MEMBERS}
+use Rattle.member.specs.declared.record.Survey.{Survey}
 use Rattle.member.specs.declared.record.Vehicle.{Vehicle}
 use Rattle.rating.specs.Judgement.{permitted_for, judgement_of}
 use Rattle.rating.specs.Surveyed.{AllowedSurvey, member_at, members_of}
@@ -20,14 +19,12 @@ use Rattle.files.specs.Reading.{Reading, or_else, test, first_refusal}
 use Rattle.surveys.specs.SurveyFile.{count_of, record_at, records_of, survey_of, read_survey}
 use Rattle.files.specs.declared.Refusal.{Refusal}
 use Rattle.files.proofs.Each.{each_same, length_each}
-use Rattle.files.proofs.Faults.{reading_case, both_taken, or_none, test_holds}
+use Rattle.files.proofs.Faults.{reading_case, both_taken, test_holds}
 use Rattle.files.proofs.Tests.{not_none}
 use Rattle.surveys.proofs.Surveys.{taken_survey, taken_record, taken_count, taken_members, refused_blank}
 use Rattle.between.specs.Order.{order_answer, order_of}
-use Rattle.between.specs.Between.{pair_answer, between_tests, verdict_between, bounds_written, answered_between, between_list}
+use Rattle.between.specs.Between.{between_tests, verdict_between, bounds_written, answered_between, between_list}
 use Rattle.between.specs.declared.Between.{Between}
-use Rattle.between.specs.declared.BetweenJudged.TheVariants.{Verdict as Given}
-use Rattle.between.specs.declared.BetweenJudged.TheVariants.{Err as NotJudged}
 use Rattle.between.proofs.Orders.{count_differs, count_alike, order_count}
 use Rattle.between.proofs.Lists.{bounds_same}
 
@@ -54,7 +51,7 @@ module _ (bytes : List ℕ) where
 module _ (first second : List ℕ) where
   module _ (e : (read_survey first).answer ≡ (Ok tt)) (f : (read_survey second).answer ≡ (Ok tt)) where
     -- what was read is in order exactly when the files are
-    pub order_read : order_answer (read_survey first).survey.count (read_survey second).survey.count (member_at (read_survey first).survey.members) (member_at (read_survey second).survey.members) ≡ order_of first second
+    order_read : order_answer (read_survey first).survey.count (read_survey second).survey.count (member_at (read_survey first).survey.members) (member_at (read_survey second).survey.members) ≡ order_of first second
     order_read =
         rw (read_count first e, read_count second f)
         (elim (ℕ_discrete (count_of first) (count_of second)) [
@@ -66,27 +63,10 @@ module _ (first second : List ℕ) where
           | no other ↦ count_differs _ _ _ _ other ∙ sym (count_differs _ _ _ _ other)
         ])
 
-  -- the two files' own refusals and their order, from what was read
-  pub pair_answer_lem : (a b order : Reading) → a ≡ (read_survey first).answer → b ≡ (read_survey second).answer →
-      order ≡ order_answer (read_survey first).survey.count (read_survey second).survey.count (member_at (read_survey first).survey.members) (member_at (read_survey second).survey.members) →
-      or_else a (or_else b order) ≡ pair_answer first second
-  pair_answer_lem (Ok tt) (Ok tt) order e f o = rw (← e, ← f, or_none) (o ∙ order_read (sym e) (sym f))
-  pair_answer_lem (Ok tt) (Err r) order e f o = rw (← e, ← f)
-  pair_answer_lem (Err r) b order e f o = rw (← e)
-
-  -- the row of tests, from the pair's answer and the count of what was read
-  pub tests_are : (v : Vehicle) (room : ℕ) →
-      or_else (test 12 (not (eqb v.axles 0))) (or_else (pair_answer first second) (test 14 (leb (2 * (read_survey first).survey.count) room))) ≡
-      first_refusal (between_tests v first second room)
-  tests_are v room = ap (or_else (test 12 (not (eqb v.axles 0)))) (go (read_survey first).answer (read_survey second).answer (order_of first second) (read_count first))
-    where
-      go : (a b order : Reading) → (a ≡ (Ok tt) → (read_survey first).survey.count ≡ count_of first) →
-          or_else (or_else a (or_else b (or_else order (Ok tt)))) (test 14 (leb (2 * (read_survey first).survey.count) room)) ≡
-          or_else a (or_else b (or_else order (or_else (test 14 (leb (2 * count_of first) room)) (Ok tt))))
-      go (Ok tt) (Ok tt) (Ok tt) n = rw (or_none, n refl)
-      go (Ok tt) (Ok tt) (Err r) n = refl
-      go (Ok tt) (Err r) order n = refl
-      go (Err r) b order n = refl
+  -- so of the surveys that the files gave
+  pub read_order : {s s' : Survey} → ((read_survey first).answer ≡ Ok tt) × ((read_survey first).survey ≡ s) → ((read_survey second).answer ≡ Ok tt) × ((read_survey second).survey ≡ s') →
+      order_of first second ≡ order_answer s.count s'.count (member_at s.members) (member_at s'.members)
+  read_order a b = rw (← a.1, ← b.1) (sym (order_read a.0 b.0))
 
 -- what holds where no test fails
 pub record Passed (v : Vehicle) (first second : List ℕ) (room : ℕ) : Type 0 where
@@ -121,12 +101,12 @@ module _ (v : Vehicle) (first second : List ℕ) (room : ℕ) where
     same_count = rw (read_count first p.first_taken, read_count second p.second_taken) (order_count first second p.order)
 
     pub verdict_given : {b : Between} → b ≡ verdict_between (judgement_of (members_of (read_survey first).survey) v).verdict (judgement_of (members_of (read_survey second).survey) v).verdict →
-        Given b ≡ answered_between v first second room
+        Ok b ≡ answered_between v first second room
     unfolding answered_between
     verdict_given e = rw (passed_all p, e, read_members first p.first_taken, read_members second p.second_taken)
 
   -- or one does
-  pub refusal_given : (r : Refusal) → first_refusal (between_tests v first second room) ≡ Err r → NotJudged r ≡ answered_between v first second room
+  refusal_given : (r : Refusal) → first_refusal (between_tests v first second room) ≡ Err r → Err r ≡ answered_between v first second room
   unfolding answered_between
   refusal_given r e = rw e
 
@@ -144,3 +124,8 @@ module _ (v : Vehicle) (first second list : List ℕ) where
   pub list_kept : (r : Refusal) → first_refusal (between_tests v first second (length list)) ≡ Err r → list ≡ between_list v first second list
   unfolding between_list
   list_kept r e = rw e
+
+  -- the answer and the list of a call that is refused
+  pub refused : (r : Refusal) → first_refusal (between_tests v first second (length list)) ≡ Err r →
+      (Err r ≡ answered_between v first second (length list)) × (list ≡ between_list v first second list)
+  refused r e = (refusal_given v first second (length list) r e, list_kept r e)

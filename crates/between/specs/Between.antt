@@ -1,17 +1,15 @@
 -- The bounds and the verdict of two surveys for a vehicle. Document 02, request 5/13: "Rot between two readings."
-use Rattle.std.specs.Prelude.{ℕ, zero, suc, ◌*◌, not, List, [], ◌∷◌, ◌++◌, eqb, leb, length, drop, Ok, Err}
+use Rattle.std.specs.Prelude.{ℕ, zero, suc, ◌*◌, not, List, [], ◌∷◌, ◌++◌, eqb, leb, length, drop, Result, Ok, Err}
 use Rattle.member.specs.declared.record.Vehicle.{Vehicle}
 use Rattle.rating.specs.Judgement.{permitted_for, judgement_of}
 use Rattle.rating.specs.declared.judging.Verdict.{Verdict}
 use Rattle.rating.specs.declared.judging.Verdict.TheVariants.{Pass, Refuse}
-use Rattle.files.specs.Reading.{Reading, test, first_refusal}
+use Rattle.files.specs.Reading.{Reading, test, first_refusal, taken}
+use Rattle.files.specs.declared.Refusal.{Refusal}
 use Rattle.surveys.specs.SurveyFile.{count_of, record_at, records_of, read_survey}
 use Rattle.between.specs.Order.{order_of}
 use Rattle.between.specs.declared.Between.{Between}
 use Rattle.between.specs.declared.Between.TheVariants.{All, None, Undecided}
-use Rattle.between.specs.declared.BetweenJudged.{BetweenJudged}
-use Rattle.between.specs.declared.BetweenJudged.TheVariants.{Verdict as Given}
-use Rattle.between.specs.declared.BetweenJudged.TheVariants.{Err as NotJudged}
 
 -- two files' own refusals, and their order
 abbrev pub pair_tests : (first second : List ℕ) → List Reading
@@ -40,11 +38,7 @@ in_turn lowest highest (suc n) = in_turn lowest highest n ++ (lowest n ∷ highe
 unfoldable pub bounds_written : (lowest highest : ℕ → ℕ) (n : ℕ) (list : List ℕ) → List ℕ
 bounds_written lowest highest n list = in_turn lowest highest n ++ drop (2 * n) list
 
--- by the tests: the verdict, or the refusal; and the list filled, or as it was: a refusal writes nothing
-abbrev pub given : Reading → Between → BetweenJudged
-given (Ok tt) verdict = Given verdict
-given (Err r) verdict = NotJudged r
-
+-- by the tests: the list filled, or as it was: a refusal writes nothing
 abbrev pub kept : Reading → (list filled : List ℕ) → List ℕ
 kept (Ok tt) list filled = filled
 kept (Err r) list filled = list
@@ -57,8 +51,8 @@ module _ (v : Vehicle) where
   abbrev pub verdict_in : (survey : List ℕ) → Verdict
   verdict_in survey = (judgement_of (records_of survey) v).verdict
 
-  unfoldable pub answered_between : (first second : List ℕ) (room : ℕ) → BetweenJudged
-  answered_between first second room = given (first_refusal (between_tests v first second room)) (verdict_between (verdict_in first) (verdict_in second))
+  unfoldable pub answered_between : (first second : List ℕ) (room : ℕ) → Result Between Refusal
+  answered_between first second room = taken (first_refusal (between_tests v first second room)) (verdict_between (verdict_in first) (verdict_in second))
 
   -- what the lent list then holds. The lowest permitted load is that of the second survey, which has the greater rot, losses and dead load;
   -- the highest that of the first

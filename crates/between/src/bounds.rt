@@ -17,15 +17,10 @@ const LOADS: usize = 2 * MOST_MEMBERS;
 fn verdict_between(first: Verdict, second: Verdict) -> Between
     ensures { result ≡ verdict_between first second }
 {
-    match first {
-        Verdict::Pass => match second {
-            Verdict::Pass => Between::All,
-            Verdict::Refuse => Between::Undecided,
-        },
-        Verdict::Refuse => match second {
-            Verdict::Pass => Between::Undecided,
-            Verdict::Refuse => Between::None,
-        },
+    match (first, second) {
+        (Verdict::Pass, Verdict::Pass) => Between::All,
+        (Verdict::Refuse, Verdict::Refuse) => Between::None,
+        _ => Between::Undecided,
     }
 }
 
@@ -34,12 +29,10 @@ fn put_bounds(list: &mut [u64], low: [u64; LOADS], high: [u64; LOADS], count: us
     requires { (count ≤ MOST_MEMBERS) × (2 * count ≤ length list.old) }
     ensures { list.new ≡ bounds_written (λ i. get_or low (2 * i) 0) (λ i. get_or high (2 * i) 0) count list.old }
 {
-    let mut i: usize = 0;
-    while i < count {
+    for i in 0..count {
         let at = 2 * i;
         list[at] = low[at];
         list[at + 1] = high[at];
-        i += 1;
     }
 }
 
@@ -54,7 +47,5 @@ pub fn fill(first: Survey, second: Survey, v: Vehicle, list: &mut [u64]) -> Betw
     let mut low = [0u64; LOADS];
     let worst = judging::judge(second, v, &mut low);
     put_bounds(list, low, high, first.count);
-    let first_verdict = best.verdict;
-    let second_verdict = worst.verdict;
-    verdict_between(first_verdict, second_verdict)
+    verdict_between(best.verdict, worst.verdict)
 }

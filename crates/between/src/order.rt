@@ -1,72 +1,55 @@
 // Whether two surveys are in order: field by field, what wears is as great or greater in the second, and all else is equal.
-ghost use Rattle.std.specs.Prelude.{◌≡◌, ◌≤◌, eqb, leb};
-ghost use Rattle.section.specs.Choose.{choose};
-ghost use Rattle.member.specs.Fields.{MOST_MEMBERS};
+ghost use Rattle.std.specs.Prelude.{◌≡◌, ◌≤◌, ◌<◌};
+ghost use Rattle.member.specs.Fields.{FIELDS, MOST_MEMBERS};
 ghost use Rattle.rating.specs.Surveyed.{member_at};
-ghost use Rattle.between.specs.Order.{may_grow, ordered, order_answer};
+ghost use Rattle.between.specs.Order.{may_grow, field_ordered, ordered, order_answer};
 
-use files::{Reading, Refusal};
-use member::record::*;
+use files::Refusal;
+use files::fault::Fault;
+use member::record::{CLOSE_STRINGER, CODE, DEAD_LOAD, FIELDS, KIND, Member, Survey};
 use member::wear::{is_loss, is_rot};
 
 // The number in the field may be greater in the second survey. Of closely spaced stringers only the dead load may: their rot changes the
 // spread.
+#[tactic(auto, using(crate::proofs::Orders::dead_grows, crate::proofs::Orders::kept_grows, crate::proofs::Orders::worn_grows))]
 fn may_grow(kind: u16, code: u16, f: usize) -> bool
     ensures { result ≡ may_grow kind code f }
 {
-    let dead = f == DEAD_LOAD;
-    let spaced = kind != CLOSE_STRINGER;
-    let worn = is_rot(code, f) | is_loss(code, f);
-    dead | (spaced & worn)
+    f == DEAD_LOAD || kind != CLOSE_STRINGER && (is_rot(code, f) || is_loss(code, f))
 }
 
-fn number_ordered(grows: bool, x: u16, y: u16) -> bool
-    ensures { result ≡ choose grows (leb x y) (eqb x y) }
+// A field of the two records.
+fn is_field_ordered(m: Member, n: Member, f: usize) -> bool
+    requires { f < FIELDS }
+    ensures { result ≡ field_ordered m n f }
 {
-    if grows { x <= y } else { x == y }
+    let (x, y) = (m.fields[f], n.fields[f]);
+    if may_grow(m.fields[KIND], m.fields[CODE], f) {
+        x <= y
+    } else {
+        x == y
+    }
 }
 
 // Every field of the two records.
 fn is_ordered(m: Member, n: Member) -> bool
     ensures { result ≡ ordered m n }
 {
-    let kind = m.fields[KIND];
-    let code = m.fields[CODE];
-    let mut good = true;
-    let mut f: usize = 0;
-    while f < FIELDS {
-        let grows = may_grow(kind, code, f);
-        good = good & number_ordered(grows, m.fields[f], n.fields[f]);
-        f += 1;
-    }
-    good
+    (0..FIELDS).all(|f| is_field_ordered(m, n, f))
 }
 
 // 15 at place 0 for another count, else at the first record that is not in order.
-pub fn order_answer(first: Survey, second: Survey) -> Reading
+pub fn order_answer(first: Survey, second: Survey) -> Result<(), Refusal>
     requires { first.count ≤ MOST_MEMBERS }
     ensures { result ≡ order_answer first.count second.count (member_at first.members) (member_at second.members) }
 {
-    let count = first.count;
-    if count != second.count {
-        return Reading::Refused(Refusal {
-            number: 15,
-            place: 0,
-        });
+    if first.count != second.count {
+        return Err(Fault::Order.at(0));
     }
-    let mut answer = Reading::Taken;
-    let mut i: usize = 0;
-    while i < count {
-        let m = first.members[i];
-        let n = second.members[i];
-        if !is_ordered(m, n) {
-            answer = Reading::Refused(Refusal {
-                number: 15,
-                place: (i + 1) as u64,
-            });
-            break;
+    for i in 0..first.count {
+        if !is_ordered(first.members[i], second.members[i]) {
+            return Err(Fault::Order.at(i as u64 + 1));
         }
-        i += 1;
     }
-    answer
+    Ok(())
 }

@@ -4,9 +4,14 @@ use mathlib.Core.Path.{◌≡◌, refl, sym, ◌∙◌}
 use mathlib.Core.List.{List, [], ◌∷◌}
 use mathlib.Core.Bool.{Bool, true, false, not, ◌&&◌, ◌||◌, and-true}
 use mathlib.Core.Logic.{◌↔◌}
+use native.Mathlib.Nat.{zero-add}
 use native.Mathlib.Omega.{arith}
 use lib.Dec.{eqb, leb}
+use lib.ListN.{length}
 use borrow.Author.Tests.{leb-true, le-leb, eqb-true, eqb-false}
+use Rattle.std.specs.Bool.{MatchBool}
+use Rattle.std.specs.List.{AllWithin, HoldsAt, range_with_len}
+use Rattle.std.proofs.lemmas.List.FromFn.{length-range_with_len, get_or-range_with_len}
 use Rattle.section.specs.Choose.{choose, all}
 use Rattle.section.proofs.Table.{all_at}
 use Rattle.member.specs.Format.{Range, In}
@@ -59,6 +64,17 @@ module _ (test : ℕ → Bool) where
       go : (b : Bool) → all test n ≡ b → all test n ≡ false
       go false f = f
       go true t = let at : test i ≡ true = all_at test n t i h in let z : ◌≡◌ {A = ℕ} 0 1 = cc in absurd (omega arith)
+
+-- what `all` over the indices below n answers
+pub all_indices : (test : ℕ → Bool) (n : ℕ) (r : Bool) →
+    MatchBool r (AllWithin (λ f. test f ≡ true) (range_with_len 0 n) 0 (length (range_with_len 0 n)))
+    ((k : ℕ) × (k < length (range_with_len 0 n)) × HoldsAt (λ f. test f ≡ false) (range_with_len 0 n) k) →
+    r ≡ all test n
+all_indices test n true h =
+    sym (all_of test n (λ i l. rw (get_or-range_with_len 0 n i 0 l, zero-add i) at (h i 0 (omega arith) (omega (arith, length-range_with_len 0 n)))))
+all_indices test n false (k, l, h) =
+    let inside : k < n = omega (arith, length-range_with_len 0 n) in
+    sym (all_fails test n k inside (rw (get_or-range_with_len 0 n k 0 inside, zero-add k) at (h 0)))
 
 -- a count that is not 0
 pub not_none : (n : ℕ) → not (eqb n 0) ≡ true → 0 < n

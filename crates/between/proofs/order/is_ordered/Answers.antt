@@ -1,31 +1,18 @@
--- `between::order::is_ordered` meets its contract. The loop's invariant: `good` is the test of the fields passed.
+-- `between::order::is_ordered` meets its contract: it asks for each field below the last.
 -- Assumes nothing.
 use mathlib.Core.Path.{◌≡◌, refl}
-use native.Mathlib.Numerals.{add-one}
-use native.Mathlib.Omega.{arith}
+use mathlib.Core.Bool.{true, false}
+use Rattle.std.proofs.Common.{rules}
+use Rattle.std.proofs.lemmas.Iterator.{cases_from_all, YieldsList-from_range}
 use Rattle.member.specs.Fields.{FIELDS}
-use Rattle.between.specs.Order.{ordered}
+use Rattle.between.specs.Order.{field_ordered, ordered}
+use Rattle.files.proofs.Tests.{all_indices}
 use Rattle.between.proofs.order.is_ordered.Goals as goal
-
-pub loop-f-init : goal.loop-f-init
-loop-f-init c = (omega arith, refl)
-
-pub offset_bounds-m-f : goal.offset_bounds-m-f
-offset_bounds-m-f c = record { fits = omega arith }
-
-pub offset_bounds-n-f : goal.offset_bounds-n-f
-offset_bounds-n-f c = record { fits = omega arith }
-
-pub overflow_add-f : goal.overflow_add-f
-overflow_add-f c = record { fits = omega arith }
-
-pub loop-f-preserved : goal.loop-f-preserved
-loop-f-preserved c =
-    let l = c in
-    (omega arith, rw (add-one, ← l.loop-f.invariant.1, ← c.may_grow-grows.ensures, ← c.number_ordered-good.ensures))
 
 pub returns : goal.returns
 unfolding ordered
 returns c =
-    let ended : c.loop-f.f ≡ FIELDS = omega arith in
-    rw ended at c.loop-f.invariant.1
+    let test = field_ordered c.args.m c.args.n in
+    all_indices test FIELDS c.all.result
+    (cases_from_all _ _ c.all.result (λ f. test f ≡ true) (λ f. test f ≡ false) c.all.ensures.ran (YieldsList-from_range 0 FIELDS FIELDS refl refl) (λ x q k. search rules)
+    (λ x q k. search rules))

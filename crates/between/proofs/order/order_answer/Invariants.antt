@@ -1,7 +1,6 @@
 -- `between::order::order_answer` meets its contract. The loop's invariant: none of the first i pairs of records has a fault.
 -- Assumes nothing.
-use Rattle.std.specs.Prelude.{Ok, Err}
-use Prim.Native.Nat.{◌-◌, ◌≤◌}
+use Rattle.std.specs.Prelude.{Ok}
 use mathlib.Core.Path.{◌≡◌}
 use Rattle.rating.specs.Surveyed.{member_at}
 use Rattle.files.specs.Reading.{first_fault}
@@ -10,7 +9,4 @@ use Rattle.between.specs.Order.{order_fault}
 use Rattle.between.proofs.order.order_answer.Given as goal
 
 abbrev pub invariant-loop-i : goal.invariant-loop-i
-invariant-loop-i l = (l.i ≤ l.count) × (l.answer ≡ (Ok tt)) × (first_fault 1 (each (λ i. order_fault (member_at l.first.members i) (member_at l.second.members i)) l.i) ≡ (Ok tt))
-
-abbrev pub decreases-loop-i : goal.decreases-loop-i
-decreases-loop-i l = l.count - l.i
+invariant-loop-i l = first_fault 1 (each (λ i. order_fault (member_at l.first.members i) (member_at l.second.members i)) l.i) ≡ Ok tt
