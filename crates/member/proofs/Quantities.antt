@@ -21,7 +21,7 @@ use Rattle.member.specs.Fields.{KIND, SPECIES, SPAN, SPACING, DISTANCE, HEIGHT, 
 use Rattle.member.specs.Format.{AllowedMember, used, unused_by_kind, unused_by_code, ranges, range_of, suits, bending}
 use Rattle.member.specs.Formula.{Positive, Valid, dowelled, keyed, plates}
 use Rattle.member.specs.PermittedLoad.{load_factor, load_factor_tenths, distribution, section_modulus, section_inertia, board_inertia, capacity, joint_front, beta_of, stringer_of, close_stringer_of, cross_beam_of, chord_of, joint_of}
-use Rattle.member.specs.Sizes.{Sizes, Spaced, Inside, Ratio}
+use Rattle.member.specs.Sizes.{Sizes, terms_of, Spaced, Inside, Ratio}
 use Rattle.member.specs.declared.record.Member.{Member}
 use Rattle.member.proofs.Allowed.{every_code, in_range}
 use Rattle.member.proofs.EachKind.{stringer_valid, close_stringer_valid, cross_beam_valid, chord_valid, joint_valid, whole_positive, tenths_positive, over_positive, rest_positive}
@@ -74,15 +74,16 @@ pub record Close (m : Member) : Type 0 where
 
 module _ {m : Member} (a : AllowedMember m) where
   -- every kind has a span and a dead load
-  pub sizes : (k n : ℕ) → k ≤ 16 → LoadFactor n → Sizes k n (field m DEAD_LOAD) (field m SPAN)
+  pub sizes : (class : ℕ) → Sizes (terms_of m class)
   unfolding used unused_by_kind unused_by_code bending suits range_of ranges
-  sizes k n h f = by_kind a (λ j. field m KIND ≡ j → Sizes k n (field m DEAD_LOAD) (field m SPAN)) (of 1 refl refl) (of 2 refl refl) (of 3 refl refl) (of 4 refl refl) (of 5 refl refl) (of 6 refl refl) (of 7 refl refl) refl
+  sizes class = by_kind a (λ j. field m KIND ≡ j → Sizes (terms_of m class)) (of 1 refl refl) (of 2 refl refl) (of 3 refl refl) (of 4 refl refl) (of 5 refl refl) (of 6 refl refl) (of 7 refl refl) refl
     where
-      of : (j : ℕ) → every_code j (λ c. used j c SPAN) ≡ true → every_code j (λ c. used j c DEAD_LOAD) ≡ true → field m KIND ≡ j → Sizes k n (field m DEAD_LOAD) (field m SPAN)
+      of : (j : ℕ) → every_code j (λ c. used j c SPAN) ≡ true → every_code j (λ c. used j c DEAD_LOAD) ≡ true → field m KIND ≡ j → Sizes (terms_of m class)
       of j l q e =
+          let n = load_factor_range class in
           let span = in_range a j SPAN e (omega arith) l in
           let dead = in_range a j DEAD_LOAD e (omega arith) q in
-          record { factor = h; load_factor_low = f.low; load_factor_high = f.high; dead_load = dead.1; span_low = omega (arith, span.0); span_high = span.1 }
+          record { load_factor_low = n.low; load_factor_high = n.high; dead_load = dead.1; span_low = omega (arith, span.0); span_high = span.1 }
 
   -- the rest by kind: each test says that the kind uses the field whatever its code
   pub species : (k : ℕ) → field m KIND ≡ k → every_code k (λ c. used k c SPECIES) ≡ true → (1 ≤ field m SPECIES) × (field m SPECIES ≤ 8)
@@ -160,7 +161,7 @@ front_sound m =
     (·_sound (·_sound (whole_sound 3800) (whole_sound _)) (whole_sound _)))
 
 pub span_positive : {m : Member} → AllowedMember m → Positive (whole (field m SPAN))
-span_positive a = whole_positive _ (sizes a 0 11 (omega arith) (omega arith)).span_low
+span_positive a = whole_positive _ (sizes a 0).span_low
 
 module _ {m : Member} (a : AllowedMember m) (class track : ℕ) where
   pub valid_stringer : field m KIND ≡ 1 → Valid (stringer_of m class track)

@@ -2,6 +2,8 @@ pub mod Fields
 pub mod Counts
 pub mod Blank
 pub mod Format
+pub mod Kind
+pub mod Section
 pub mod Formula
 pub mod PermittedLoad
 pub mod Sizes

@@ -1,15 +1,23 @@
 -- The ranges that the formulas' whole numbers keep to, so that no product passes 64 bits and no divisor is 0. They are those of
 -- document 01, 'Files'; the load factor n is 14 or 11 tenths.
 use Rattle.std.specs.Prelude.{ℕ, ◌≤◌, ◌<◌}
+use Rattle.section.specs.Units.{centimetres}
+use Rattle.member.specs.Fields.{SPAN, DEAD_LOAD, field}
+use Rattle.member.specs.PermittedLoad.{load_factor_tenths}
+use Rattle.member.specs.declared.record.Member.{Member}
+use Rattle.member.specs.declared.formula.Terms.{Terms}
 
--- a factor K or S and the load factor in tenths, the dead load in kgf/m and the span in cm
-pub record Sizes (k n q l : ℕ) : Type 0 where
-  pub factor : k ≤ 16
-  pub load_factor_low : 11 ≤ n
-  pub load_factor_high : n ≤ 14
-  pub dead_load : q ≤ 10000
-  pub span_low : 1 ≤ l
-  pub span_high : l ≤ 5000
+-- the load factor in tenths, the dead load in kgf/m and the span in cm
+pub record Sizes (t : Terms) : Type 0 where
+  pub load_factor_low : 11 ≤ t.n
+  pub load_factor_high : t.n ≤ 14
+  pub dead_load : t.q.0 ≤ 10000
+  pub span_low : 1 ≤ t.l.0
+  pub span_high : t.l.0 ≤ 5000
+
+-- those of a member, for a vehicle of this class
+abbrev pub terms_of : Member → (class : ℕ) → Terms
+terms_of m class = record { n = load_factor_tenths class; q = record { 0 = field m DEAD_LOAD }; l = centimetres (field m SPAN) }
 
 -- the spacing to the neighbour
 pub record Spaced (d : ℕ) : Type 0 where

@@ -8,7 +8,7 @@ pub fn blank_member() -> Member
     ensures { result ≡ blank_member }
 {
     Member {
-        fields: [0u16; FIELDS],
+        fields: [0; FIELDS],
     }
 }
 
@@ -16,9 +16,8 @@ pub fn blank_member() -> Member
 pub fn blank_survey() -> Survey
     ensures { result ≡ blank_survey }
 {
-    let blank = blank_member();
     Survey {
         count: 0,
-        members: [blank; MOST_MEMBERS],
+        members: [blank_member(); MOST_MEMBERS],
     }
 }

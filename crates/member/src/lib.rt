@@ -3,6 +3,7 @@
 
 pub mod blank;
 mod formula;
+pub mod kind;
 pub mod permitted;
 pub mod record;
 pub mod wear;

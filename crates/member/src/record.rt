@@ -1,7 +1,11 @@
 // A member and a vehicle as their files hold them.
 ghost use Rattle.std.specs.Prelude.{◌≡◌, ◌<◌};
-ghost use Rattle.member.specs.Fields.{KIND, SPAN, SPACING, DISTANCE, HEIGHT, DEAD_LOAD, CODE, S1, S2, S3, S4, S5, S6, MU_A, MU_B, field};
+ghost use Rattle.member.specs.Fields.{KIND, SPAN, SPACING, DISTANCE, HEIGHT, DEAD_LOAD, CODE, S1, S2, S3, S4, S5, S6, MU_A, MU_B, LAST_KIND, LAST_CODE, field};
+ghost use Rattle.member.specs.Format.{In, ◌‥◌};
+ghost use Rattle.member.specs.Kind.{kind_number};
+ghost use Rattle.member.specs.Section.{SectionIs};
 
+use crate::kind::Kind;
 use section::crescent::Crescent;
 use section::dowel::Dowels;
 use section::log::Log;
@@ -44,7 +48,7 @@ pub const MU_B: usize = 15;
 
 pub const FIELDS: usize = 16;
 
-// The kind of closely spaced stringers.
+// The number of `Kind::CloseStringer`.
 pub const CLOSE_STRINGER: u16 = 7;
 
 // The most members of a survey, and the most axles of a vehicle.
@@ -59,6 +63,7 @@ pub struct Member {
 }
 
 // The members of a bridge, of which the first `count` are used.
+// Stays: fixed memory without a heap; `AllowedSurvey` and `members_of`, under the theorems of rating, speak of both fields.
 #[derive(Clone, Copy)]
 pub struct Survey {
     pub count: usize,
@@ -66,6 +71,7 @@ pub struct Survey {
 }
 
 // A lorry: class, track, and of the first `axles` axles the weight and the distance from the axle in front.
+// Stays: fixed memory without a heap; `AllowedVehicle` and `Heavier` speak of each field, the number of the class too.
 #[derive(Clone, Copy)]
 pub struct Vehicle {
     pub class: u8,
@@ -73,6 +79,17 @@ pub struct Vehicle {
     pub axles: usize,
     pub weights: [Kgf; MOST_AXLES],
     pub distances: [Cm; MOST_AXLES],
+}
+
+// The section of a member, which its code picks.
+#[derive(Clone, Copy)]
+pub enum Section {
+    Log(Log),
+    Sawn(Sawn),
+    Dowels(Dowels),
+    // In cm².
+    Area { given: u64, lost: u64 },
+    Crescent(Crescent),
 }
 
 // A number leaves the record with its unit: lengths as `Cm`, the dead load as `KgfPerM`, a dowel's diameter as `Mm`. What has none
@@ -83,8 +100,15 @@ impl Member {
         requires { f < 16 }
         ensures { result ≡ field self f }
     {
-        let fields = self.fields;
-        fields[f] as u64
+        u64::from(self.fields[f])
+    }
+
+    // What the member is.
+    pub fn kind(self) -> Kind
+        requires { In (1 ‥ LAST_KIND) (field self KIND) }
+        ensures { kind_number result ≡ field self KIND }
+    {
+        Kind::try_from(self.fields[KIND]).unwrap()
     }
 
     // l
@@ -127,13 +151,10 @@ impl Member {
         requires { field self CODE ≡ 1 }
         ensures { (result.diameter.0 ≡ field self S1) × (result.rot.0 ≡ field self S2) × (result.tiers ≡ field self S3) }
     {
-        let diameter = Cm(self.number(S1));
-        let rot = Cm(self.number(S2));
-        let tiers = self.number(S3);
         Log {
-            diameter,
-            rot,
-            tiers,
+            diameter: Cm(self.number(S1)),
+            rot: Cm(self.number(S2)),
+            tiers: self.number(S3),
         }
     }
 
@@ -142,19 +163,13 @@ impl Member {
         requires { field self CODE ≡ 2 }
         ensures { (result.width.0 ≡ field self S1) × (result.height.0 ≡ field self S2) × (result.side_rot.0 ≡ field self S3) × (result.top_rot.0 ≡ field self S4) × (result.pieces ≡ field self S5) × (result.lost ≡ field self S6) }
     {
-        let width = Cm(self.number(S1));
-        let height = Cm(self.number(S2));
-        let side_rot = Cm(self.number(S3));
-        let top_rot = Cm(self.number(S4));
-        let pieces = self.number(S5);
-        let lost = self.number(S6);
         Sawn {
-            width,
-            height,
-            side_rot,
-            top_rot,
-            pieces,
-            lost,
+            width: Cm(self.number(S1)),
+            height: Cm(self.number(S2)),
+            side_rot: Cm(self.number(S3)),
+            top_rot: Cm(self.number(S4)),
+            pieces: self.number(S5),
+            lost: self.number(S6),
         }
     }
 
@@ -163,19 +178,13 @@ impl Member {
         requires { field self CODE ≡ 3 }
         ensures { (result.material ≡ field self S1) × (result.diameter.0 ≡ field self S2) × (result.middle.0 ≡ field self S3) × (result.outer.0 ≡ field self S4) × (result.rot.0 ≡ field self S5) × (result.cuts ≡ field self S6) }
     {
-        let material = self.number(S1);
-        let diameter = Mm(self.number(S2));
-        let middle = Cm(self.number(S3));
-        let outer = Cm(self.number(S4));
-        let rot = Cm(self.number(S5));
-        let cuts = self.number(S6);
         Dowels {
-            material,
-            diameter,
-            middle,
-            outer,
-            rot,
-            cuts,
+            material: self.number(S1),
+            diameter: Mm(self.number(S2)),
+            middle: Cm(self.number(S3)),
+            outer: Cm(self.number(S4)),
+            rot: Cm(self.number(S5)),
+            cuts: self.number(S6),
         }
     }
 
@@ -184,29 +193,41 @@ impl Member {
         requires { field self CODE ≡ 5 }
         ensures { (result.diameter.0 ≡ field self S1) × (result.depth.0 ≡ field self S2) × (result.tiers ≡ field self S3) }
     {
-        let diameter = Cm(self.number(S1));
-        let depth = Cm(self.number(S2));
-        let tiers = self.number(S3);
         Crescent {
-            diameter,
-            depth,
-            tiers,
+            diameter: Cm(self.number(S1)),
+            depth: Cm(self.number(S2)),
+            tiers: self.number(S3),
         }
     }
+
+    // The section that the code picks.
+    pub fn section(self) -> Section
+        requires { In (1 ‥ LAST_CODE) (field self CODE) }
+        ensures { SectionIs self result }
+    {
+        match self.number(CODE) {
+            1 => Section::Log(self.log()),
+            2 => Section::Sawn(self.sawn()),
+            3 => Section::Dowels(self.dowels()),
+            4 => Section::Area {
+                given: self.number(S1),
+                lost: self.number(S2),
+            },
+            5 => Section::Crescent(self.crescent()),
+            _ => unreachable!(),
+        }
+    }
+
     // The deck over closely spaced stringers: x board count, h board thickness, A board width, B deck rot.
     pub fn deck(self) -> Deck
         requires { field self KIND ≡ 7 }
         ensures { (result.boards ≡ field self DISTANCE) × (result.thickness.0 ≡ field self HEIGHT) × (result.width.0 ≡ field self MU_A) × (result.rot.0 ≡ field self MU_B) }
     {
-        let boards = self.number(DISTANCE);
-        let thickness = Cm(self.number(HEIGHT));
-        let width = Cm(self.number(MU_A));
-        let rot = Cm(self.number(MU_B));
         Deck {
-            boards,
-            thickness,
-            width,
-            rot,
+            boards: self.number(DISTANCE),
+            thickness: Cm(self.number(HEIGHT)),
+            width: Cm(self.number(MU_A)),
+            rot: Cm(self.number(MU_B)),
         }
     }
 }

@@ -6,25 +6,17 @@ ghost use Rattle.member.specs.Wear.{rot_fields, lost_fields};
 use crate::record::{S2, S3, S4, S5, S6};
 
 // "Rot is s2 of code 1, s3 and s4 of code 2, s5 of code 3", and the depth of code 5.
+#[tactic(auto, unfolding(crate::specs::Wear::rot_fields))]
 pub fn is_rot(code: u16, f: usize) -> bool
     ensures { result ≡ holds f (rot_fields code) }
 {
-    match code {
-        1 => f == S2,
-        2 => (f == S3) | (f == S4),
-        3 => f == S5,
-        5 => f == S2,
-        _ => false,
-    }
+    matches!((code, f), (1 | 5, S2) | (2, S3 | S4) | (3, S5))
 }
 
 // "lost area is s6 of code 2, s2 of code 4"
+#[tactic(auto, unfolding(crate::specs::Wear::lost_fields))]
 pub fn is_loss(code: u16, f: usize) -> bool
     ensures { result ≡ holds f (lost_fields code) }
 {
-    match code {
-        2 => f == S6,
-        4 => f == S2,
-        _ => false,
-    }
+    matches!((code, f), (2, S6) | (4, S2))
 }

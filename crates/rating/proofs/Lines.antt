@@ -56,7 +56,7 @@ distance_high s e = omega arith
 
 module _ {m : Member} (a : AllowedMember m) where
   pub span_high : field m SPAN ≤ 5000
-  span_high = (sizes a 0 11 (omega arith) (omega arith)).span_high
+  span_high = (sizes a 0).span_high
 
   pub line_sized : Sized (influence_line m)
   unfolding line_of used unused_by_kind unused_by_code bending suits
@@ -72,7 +72,7 @@ module _ {m : Member} (a : AllowedMember m) where
       refl
     where
       span : (1 ≤ field m SPAN) × (field m SPAN ≤ 5000)
-      span = let s = sizes a 0 11 (omega arith) (omega arith) in (s.span_low, s.span_high)
+      span = let s = sizes a 0 in (s.span_low, s.span_high)
 
   module _ (v : Vehicle) where
     -- at least what every position gives, in either direction of travel

@@ -10,7 +10,7 @@ use native.Mathlib.Numerals.{add-one}
 use native.Mathlib.Omega.{arith}
 use lib.Dec.{leb, ltb}
 use lib.IntN.{ℤ, pos, ◌-ℤ◌}
-use lib.ListN.{length, drop, take, set, length-append, length-drop, length-take}
+use lib.ListN.{length, drop, take, set, length-append, length-drop}
 use lib.Seq.{sets-eq, take_at, take-suc, drop-append-add, drop-drop, length-take-le}
 use lib.Signed.{le_z, lt_z}
 use borrow.Author.Tests.{ne_eqb}
@@ -19,10 +19,9 @@ use Rattle.member.specs.PermittedLoad.{permitted_load}
 use Rattle.rating.specs.VehicleLoad.{vehicle_load_on}
 use Rattle.rating.specs.Judgement.{verdict_of, permitted_for, passes, every_passes, least, first_that, figure, margin, least_margin, has_least, governing, loads, written, rating_of, judgement_of}
 use Rattle.rating.specs.Turn.{both, with_member}
-use Rattle.rating.specs.Surveyed.{member_at, AllowedSurvey}
+use Rattle.rating.specs.Surveyed.{member_at}
 use Rattle.section.specs.declared.KgfPerM.{KgfPerM}
 use Rattle.member.specs.declared.record.Member.{Member}
-use Rattle.member.specs.declared.record.Survey.{Survey}
 use Rattle.member.specs.declared.record.Vehicle.{Vehicle}
 use Rattle.rating.specs.declared.judging.Verdict.{Verdict}
 use Rattle.rating.specs.declared.judging.Rating.{Rating}
@@ -31,7 +30,6 @@ use Rattle.rating.proofs.Governing.{margin_had}
 use Rattle.section.proofs.Choices.{decided}
 use Rattle.rating.proofs.Least.{orders_ℕ, orders_ℤ, itself, lesser_is, below_least, least_added}
 use Rattle.rating.proofs.Places.{place_kept, place_added}
-use Rattle.rating.proofs.Surveys.{listed}
 
 -- a rating from its parts
 pub rating_is :
@@ -116,24 +114,18 @@ written_next v m ms list i e h =
     two = omega arith
 
 -- a turn of the loop
-module _ (v : Vehicle) {s : Survey} (a : AllowedSurvey s) (i : ℕ) (l : i < s.count) {r : Rating} (hr : r ≡ rating_of (member_at s.members i) v) where
-  passed : length (take i s.members) ≡ i
-  passed = length-take-le i s.members (omega (arith, listed a i l))
+module _ (v : Vehicle) (ms : List Member) (i : ℕ) (l : i < length ms) {r : Rating} (hr : r ≡ rating_of (member_at ms i) v) where
+  passed : length (take i ms) ≡ i
+  passed = length-take-le i ms (omega arith)
 
-  next : take (i + 1) s.members ≡ take i s.members ++ (member_at s.members i ∷ [])
-  next = rw add-one (take-suc s.members i _ (listed a i l))
+  next : take (i + 1) ms ≡ take i ms ++ (member_at ms i ∷ [])
+  next = rw add-one (take-suc ms i _ l)
 
-  pub turn_judged : {j k : Judgement} → j ≡ judgement_of (take i s.members) v → k ≡ with_member j r (i + 1) → k ≡ judgement_of (take (i + 1) s.members) v
-  turn_judged hj hk = rw next (hk ∙ rw (hj, hr) (rw passed at (judgement_next v (member_at s.members i) (take i s.members))))
+  pub turn_judged : {j k : Judgement} → j ≡ judgement_of (take i ms) v → k ≡ with_member j r (i + 1) → k ≡ judgement_of (take (i + 1) ms) v
+  turn_judged hj hk = rw next (hk ∙ rw (hj, hr) (rw passed at (judgement_next v (member_at ms i) (take i ms))))
 
   pub turn_written :
-      (list : List ℕ) {now : List ℕ} → 2 * s.count ≤ length list → now ≡ written v (take i s.members) list →
-      set (set now (2 * i) r.permitted.0) (2 * i + 1) r.load.0 ≡ written v (take (i + 1) s.members) list
+      (list : List ℕ) {now : List ℕ} → 2 * length ms ≤ length list → now ≡ written v (take i ms) list →
+      set (set now (2 * i) r.permitted.0) (2 * i + 1) r.load.0 ≡ written v (take (i + 1) ms) list
   unfolding rating_of
-  turn_written list h e = rw (next, e, hr) (written_next v (member_at s.members i) (take i s.members) list i passed (omega arith))
-
--- the list keeps its length
-pub list_length :
-    (v : Vehicle) (s : Survey) (list : List ℕ) (i : ℕ) {now : List ℕ} → i ≤ s.count → 2 * s.count ≤ length list → now ≡ written v (take i s.members) list →
-    length now ≡ length list
-list_length v s list i l h e = rw e (written_length v (take i s.members) list (simp length-take (omega arith)))
+  turn_written list h e = rw (next, e, hr) (written_next v (member_at ms i) (take i ms) list i passed (omega arith))

@@ -1,6 +1,5 @@
 // A member's rating, and the judgement of a bridge from the ratings of its members.
-ghost use Rattle.std.specs.Prelude.{◌≡◌, ◌||◌, ◌+◌, ◌*◌, ◌≤◌, ◌<◌, length, leb, ltb, pos, ◌-ℤ◌};
-ghost use Rattle.section.specs.Choose.{choose};
+ghost use Rattle.std.specs.Prelude.{◌≡◌, ◌+◌, ◌*◌, ◌≤◌, ◌<◌, length, leb, pos, ◌-ℤ◌};
 ghost use Rattle.section.specs.Units.{FitsSigned};
 ghost use Rattle.member.specs.Format.{AllowedMember, AllowedVehicle};
 ghost use Rattle.rating.specs.Surveyed.{members_of, AllowedSurvey};
@@ -12,10 +11,22 @@ use member::permitted::permitted_load;
 use member::record::*;
 use section::KgfPerM;
 
-#[derive(Clone, Copy)]
+#[derive(Clone, Copy, PartialEq, Eq)]
 pub enum Verdict {
     Pass,
     Refuse,
+}
+
+impl Verdict {
+    // Pass where both pass.
+    fn and(self, other: Verdict) -> Verdict
+        ensures { result ≡ both self other }
+    {
+        match self {
+            Verdict::Pass => other,
+            Verdict::Refuse => Verdict::Refuse,
+        }
+    }
 }
 
 // What rate gives of a member.
@@ -62,65 +73,29 @@ pub fn rate(m: Member, v: Vehicle) -> Rating
     requires { AllowedMember m × AllowedVehicle v }
     ensures { result ≡ rating_of m v }
 {
-    let track = v.track;
-    let permitted = permitted_load(m, v.class, track);
+    let permitted = permitted_load(m, v.class, v.track);
     let load = vehicle_load_on(m, v);
-    let verdict = verdict_of(load, permitted);
-    let margin = margin_of(permitted, load);
     Rating {
         permitted,
         load,
-        verdict,
-        margin,
+        verdict: verdict_of(load, permitted),
+        margin: margin_of(permitted, load),
     }
-}
-
-// Pass where both pass.
-fn both(a: Verdict, b: Verdict) -> Verdict
-    ensures { result ≡ both a b }
-{
-    match a {
-        Verdict::Pass => b,
-        Verdict::Refuse => Verdict::Refuse,
-    }
-}
-
-// The lesser of the figure so far and one more permitted load; the first member's stands for itself.
-fn figure_with(first: bool, permitted: KgfPerM, figure: KgfPerM) -> KgfPerM
-    ensures { result ≡ choose (first || ltb permitted.0 figure.0) permitted figure }
-{
-    let lower = permitted.0 < figure.0;
-    if first | lower { permitted } else { figure }
 }
 
 // The judgement of the members so far and one more. A tie leaves the earlier member governing.
+#[tactic(auto, unfolding(crate::specs::Turn::with_member))]
 fn with_member(j: Judgement, r: Rating, place: u64) -> Judgement
     ensures { result ≡ with_member j r place }
 {
-    let before = j.verdict;
-    let own = r.verdict;
-    let verdict = both(before, own);
     let first = place == 1;
-    let permitted = r.permitted;
-    let sofar = j.figure;
-    let figure = figure_with(first, permitted, sofar);
-    let margin = r.margin;
-    let least = j.margin;
-    let less = margin < least;
-    if first | less {
-        Judgement {
-            figure,
-            governing: place,
-            verdict,
-            margin,
-        }
-    } else {
-        Judgement {
-            figure,
-            governing: j.governing,
-            verdict,
-            margin: least,
-        }
+    let lower = first || r.permitted.0 < j.figure.0;
+    let governs = first || r.margin < j.margin;
+    Judgement {
+        figure: if lower { r.permitted } else { j.figure },
+        governing: if governs { place } else { j.governing },
+        verdict: j.verdict.and(r.verdict),
+        margin: if governs { r.margin } else { j.margin },
     }
 }
 
@@ -131,21 +106,17 @@ pub fn judge(s: Survey, v: Vehicle, list: &mut [u64]) -> Judgement
     ensures is { result ≡ judgement_of (members_of s) v }
     ensures list { list.new ≡ written v (members_of s) list.old }
 {
-    let count = s.count;
     let mut j = Judgement {
         figure: KgfPerM(0),
         governing: 0,
         verdict: Verdict::Pass,
         margin: 0,
     };
-    let mut i = 0;
-    while i < count {
-        let m = s.members[i];
-        let r = rate(m, v);
+    for (i, m) in s.members[..s.count].iter().enumerate() {
+        let r = rate(*m, v);
         list[2 * i] = r.permitted.0;
         list[2 * i + 1] = r.load.0;
         j = with_member(j, r, i as u64 + 1);
-        i += 1;
     }
     j
 }

@@ -5,7 +5,8 @@ ghost use Rattle.member.specs.Format.{AllowedMember, AllowedVehicle};
 ghost use Rattle.rating.specs.VehicleLoad.{influence_line, vehicle_load_on};
 
 use influence::{HalfCm, half_cm, half_of, vehicle_load};
-use member::record::*;
+use member::kind::Kind;
+use member::record::{Member, Vehicle};
 use section::{Cm, KgfPerM};
 
 // The two panels beside a cross beam; a panel is at most 1000 cm long.
@@ -21,10 +22,10 @@ fn base_of(m: Member) -> HalfCm
     requires { AllowedMember m }
     ensures { result.0 ≡ (influence_line m).base }
 {
-    if m.number(KIND) == 2 {
-        return half_cm(two_panels(m.distance()));
+    match m.kind() {
+        Kind::CrossBeam => half_cm(two_panels(m.distance())),
+        _ => half_cm(m.span()),
     }
-    half_cm(m.span())
 }
 
 // The apex: the middle of a stringer, closely spaced or not, else at x.
@@ -32,12 +33,10 @@ fn apex_of(m: Member) -> HalfCm
     requires { AllowedMember m }
     ensures { result.0 ≡ (influence_line m).apex }
 {
-    let kind = m.number(KIND);
-    let stringer = (kind == 1) | (kind == 7);
-    if stringer {
-        return half_of(m.span());
+    match m.kind() {
+        Kind::Stringer | Kind::CloseStringer => half_of(m.span()),
+        _ => half_cm(m.distance()),
     }
-    half_cm(m.distance())
 }
 
 // The vehicle load on a member: the greatest that any position gives, rounded up once.
@@ -46,7 +45,5 @@ pub fn vehicle_load_on(m: Member, v: Vehicle) -> KgfPerM
     ensures is { result.0 ≡ vehicle_load_on m v }
     ensures cap { FitsSigned result.0 }
 {
-    let weights = v.weights;
-    let distances = v.distances;
-    vehicle_load(base_of(m), apex_of(m), v.axles, weights, distances)
+    vehicle_load(base_of(m), apex_of(m), v.axles, v.weights, v.distances)
 }

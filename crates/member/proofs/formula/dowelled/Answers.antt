@@ -7,12 +7,6 @@ use Rattle.member.specs.Formula.{dowelled}
 use Rattle.section.proofs.Products.{product_fits, product_cap}
 use Rattle.member.proofs.formula.dowelled.Goals as goal
 
-pub overflow_mul-result-2 : goal.overflow_mul-result-2
-overflow_mul-result-2 c = product_fits 1000 1332000 tt (omega arith) (omega arith)
-
-pub overflow_mul-result-3 : goal.overflow_mul-result-3
-overflow_mul-result-3 c = product_fits (1000 * 1332000) 16 tt (product_cap 1000 1332000 (omega arith) (omega arith)) (omega arith)
-
 pub overflow_mul-result-4 : goal.overflow_mul-result-4
 overflow_mul-result-4 c = product_fits (1000 * 1332000 * 16) 200 tt (product_cap (1000 * 1332000) 16 (product_cap 1000 1332000 (omega arith) (omega arith)) (omega arith)) (omega arith)
 

@@ -10,5 +10,5 @@ pub returns : goal.returns
 returns c =
     let start = c in
     rating_is start.args.m start.args.v c.permitted_load-permitted.ensures.is c.vehicle_load_on-load.ensures.is
-    c.verdict_of-verdict.ensures
-    (to_z-of_z {w = w64} (record { sfits = c.margin_of-margin.type_inv }) ∙ c.margin_of-margin.ensures)
+    c.verdict_of.ensures
+    (to_z-of_z {w = w64} (record { sfits = c.margin_of.type_inv }) ∙ c.margin_of.ensures)

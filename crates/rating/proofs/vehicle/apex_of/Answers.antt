@@ -1,36 +1,35 @@
--- `rating::vehicle::apex_of` meets its contract: the middle where the kind is 1 or 7, else the distance x.
+-- `rating::vehicle::apex_of` meets its contract: the middle of a stringer, closely spaced or not, else the distance x.
 -- Assumes nothing.
-use Prim.Native.Nat.{ℕ, ◌*◌, ◌≤◌}
+use native.Mathlib.Omega.{arith}
+use Prim.Native.Nat.{◌*◌}
+use mathlib.Core.Path.{◌≡◌}
 use mathlib.Core.Bool.{true, false, ◌||◌}
-use mathlib.Core.Path.{◌≡◌, ap, sym, subst⁻¹, ◌∙◌}
 use lib.Dec.{eqb}
+use Rattle.std.proofs.Common.{rules}
 use Rattle.member.specs.Fields.{KIND, SPAN, DISTANCE, field}
 use Rattle.rating.specs.VehicleLoad.{influence_line}
 use Rattle.rating.proofs.Lines.{apex_is_middle, apex_is_distance, distance_high, line_sized}
 use Rattle.rating.proofs.vehicle.apex_of.Goals as goal
+use Rattle.rating.proofs.vehicle.apex_of.Goals.{In-Stringer, In_default}
 
-pub returns-then-stringer : goal.returns-then-stringer
-returns-then-stringer c =
-    let at = c in
-    let m = at.args.m in
-    let kind = at.number-kind.result in
-    let stringer : (eqb kind 1 || eqb kind 7) ≡ true = at.if-stringer.true in
-    c.half_of.ensures
-    ∙ c.span.ensures
-    ∙ sym (apex_is_middle (field m KIND) (field m SPAN) (field m DISTANCE) (rw at.number-kind.ensures at stringer))
+-- the kind is 1 or 7
+stringer : (c : In-Stringer) → (eqb (field c.args.m KIND) 1 || eqb (field c.args.m KIND) 7) ≡ true
+stringer c = search rules
 
--- past the branch the apex is at x
-at-distance : (c : goal.After-distance) → let m = c.args.m in (influence_line m).apex ≡ 2 * field m DISTANCE
-at-distance c =
+-- it is neither
+other : (c : In_default) → (eqb (field c.args.m KIND) 1 || eqb (field c.args.m KIND) 7) ≡ false
+other c = search rules
+
+at_distance : (c : In_default) → let m = c.args.m in (influence_line m).apex ≡ 2 * field m DISTANCE
+at_distance c = let m = c.args.m in apex_is_distance (field m KIND) (field m SPAN) (field m DISTANCE) (other c)
+
+pub returns-in-Stringer : goal.returns-in-Stringer
+returns-in-Stringer c =
     let m = c.args.m in
-    let kind = c.number-kind.result in
-    let other : (eqb kind 1 || eqb kind 7) ≡ false = c.if-stringer.false in
-    apex_is_distance (field m KIND) (field m SPAN) (field m DISTANCE) (rw c.number-kind.ensures at other)
+    omega (arith, apex_is_middle (field m KIND) (field m SPAN) (field m DISTANCE) (stringer c.before.before))
 
 pub half_cm-requires : goal.half_cm-requires
-half_cm-requires c =
-    subst⁻¹ (λ (x : ℕ). x ≤ 5000) c.distance.ensures (distance_high (line_sized c.requires) (at-distance c))
+half_cm-requires c = omega (arith, distance_high (line_sized c.requires) (at_distance c.before), c.distance.ensures)
 
-pub returns : goal.returns
-returns c =
-    c.half_cm.ensures ∙ ap (λ (x : ℕ). 2 * x) c.distance.ensures ∙ sym (at-distance c.before)
+pub returns-in_default : goal.returns-in_default
+returns-in_default c = omega (arith, at_distance c.before.before)
