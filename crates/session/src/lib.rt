@@ -75,10 +75,7 @@ impl Session {
     {
         match read_survey(bytes) {
             Ok(survey) => After {
-                session: Session {
-                    survey,
-                    vehicle: self.vehicle,
-                },
+                session: Session { survey, ..self },
                 answer: Ok(()),
             },
             Err(refusal) => After {
@@ -125,10 +122,7 @@ fn store_vehicle(session: Session, read: Result<Vehicle, Refusal>) -> After<()>
 {
     match read {
         Ok(vehicle) => After {
-            session: Session {
-                survey: session.survey,
-                vehicle,
-            },
+            session: Session { vehicle, ..session },
             answer: Ok(()),
         },
         Err(refusal) => After {
