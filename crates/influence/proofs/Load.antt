@@ -1,17 +1,20 @@
 -- The vehicle load covers every position and is less than one unit above the greatest; it is what the code computes; and it
 -- never falls where axles grow heavier or are added behind, since each position then gives at least as much.
 -- Assumes nothing.
-use Prim.Native.Nat.{ℕ, suc, ◌+◌, ◌-◌, ◌*◌, ◌≤◌, ◌<◌, max}
-use mathlib.Core.Path.{◌≡◌, refl, ap}
+use Prim.Native.Nat.{ℕ, suc, ◌+◌, ◌-◌, ◌*◌, ◌≤◌, ◌<◌}
+use mathlib.Core.Path.{◌≡◌, sym, ap}
 use mathlib.Core.List.{List}
-use native.Mathlib.Nat.{le_trans, mul-le-mul_right}
+use lib.ListN.{take}
+use Rattle.std.proofs.lemmas.List.{get_or-take}
+use Rattle.influence.specs.Bounds.{Bounded}
+use native.Mathlib.Nat.{le_trans, le_refl, le_of_eq, le_antisymm, mul-le-mul_right}
 use native.Mathlib.Omega.{arith}
 use Rattle.section.specs.declared.Cm.{Cm}
 use Rattle.section.specs.declared.Kgf.{Kgf}
 use Rattle.section.specs.Fraction.{Fraction, Sound, over, whole, ceiling, ◌⊑◌, RoundedUp}
 use Rattle.section.proofs.Order.{⊑_trans, over_mono}
 use Rattle.section.proofs.Rounding.{rounded_up, ceiling_mono, ceiling_same}
-use Rattle.section.specs.Units.{weight, distance}
+use Rattle.section.specs.Units.{weight, distance, kgf, centimetres}
 use Rattle.influence.specs.Influence.{Triangle, per_metre, gives, greatest, behind, vehicle_load}
 use Rattle.influence.specs.Scaled.{scaled_height, scaled_sum, apex_top, scaled_greatest}
 use Rattle.influence.proofs.Folds.{total_le, total_same, total_more}
@@ -33,13 +36,6 @@ module _ {U P : ℕ} (ws : List Kgf) (ds : List Cm) (n : ℕ) (t : Triangle U P)
   unfolding vehicle_load
   load_computed =
       ceiling_same (greatest_sound _ _ n t) (load_sound _ t) (greatest_computed _ _ n t (behind_last ds n))
-
-  -- what the code has at its end
-  pub load_from_tops :
-      {r g one other : ℕ} → r ≡ load_of U P g → g ≡ max one other → one ≡ apex_top U P (weight ws) (behind ds) n →
-      other ≡ apex_top U (U - P) (weight ws) (behind ds) n → r ≡ vehicle_load U P ws ds n
-  unfolding scaled_greatest
-  load_from_tops r g one other = rw (load_computed, r, g, one, other) refl
 
   -- rounded up once: never below the greatest, and less than one unit above it
   pub load_rounded_up : RoundedUp (greatest U P (weight ws) (behind ds) n) (vehicle_load U P ws ds n)
@@ -103,3 +99,27 @@ pub load_grows :
 load_grows {U} {P} ws ds ws' ds' {n} {n'} t more heavier alike =
     load_rises ws ds n ws' ds' n' t
     (greatest_grows U (weight ws) (weight ws') (behind ds) (behind ds') more heavier (behind_alike ds ds' alike) (omega arith))
+
+-- the first n of longer rows are the n axles
+module _ (ws : List Kgf) (ds : List Cm) (n : ℕ) where
+  weight_front : (i : ℕ) → i < n → weight (take n ws) i ≡ weight ws i
+  weight_front i l = ap (λ w. w.0) (get_or-take n ws i (kgf 0) l)
+
+  distance_front : (i : ℕ) → i < n → distance (take n ds) i ≡ distance ds i
+  distance_front i l = ap (λ d. d.0) (get_or-take n ds i (centimetres 0) l)
+
+  pub load_front : {U P : ℕ} → Triangle U P → vehicle_load U P (take n ws) (take n ds) n ≡ vehicle_load U P ws ds n
+  load_front t =
+      le_antisymm
+      (load_grows (take n ws) (take n ds) ws ds t (le_refl n) (λ i l. le_of_eq (weight_front i l)) distance_front)
+      (load_grows ws ds (take n ws) (take n ds) t (le_refl n) (λ i l. le_of_eq (sym (weight_front i l))) (λ i l. sym (distance_front i l)))
+
+  pub bounded_front : {U P : ℕ} → Bounded U P n ws ds → Bounded U P n (take n ws) (take n ds)
+  bounded_front b =
+      record {
+        triangle = b.triangle;
+        base = b.base;
+        axles = b.axles;
+        weights = λ i l. rw (weight_front i l) (b.weights i l);
+        distances = λ i l. rw (distance_front i l) (b.distances i l);
+      }

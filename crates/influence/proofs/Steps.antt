@@ -1,9 +1,14 @@
 -- What one turn of the code's loops adds, and that it all fits 64 bits: an axle's place is the one in front's less a distance,
 -- a height is at most 10^8 and a sum at most 16 axles of 200,000 kgf at that height.
 -- Assumes nothing.
-use Prim.Native.Nat.{ℕ, ◌+◌, ◌-◌, ◌*◌, ◌≤◌, max}
+use Prim.Native.Nat.{ℕ, suc, ◌+◌, ◌-◌, ◌*◌, ◌≤◌, max}
 use mathlib.Core.Path.{◌≡◌, refl}
 use mathlib.Core.List.{List}
+use mathlib.Core.Bool.{Bool, true, false, cond}
+use lib.Dec.{leb, eqb}
+use borrow.Author.Tests.{leb-true, leb-false}
+use Rattle.std.proofs.Common.{is_lt, Less, Equal, Greater}
+use Rattle.influence.specs.declared.ScaledSum.{ScaledSum}
 use native.Mathlib.Nat.{mul-le-mul}
 use native.Mathlib.Numerals.{add-one}
 use native.Mathlib.Decide.{dec_le}
@@ -14,7 +19,7 @@ use Rattle.section.specs.Fraction.{over, whole, ◌·◌, ◌÷◌}
 use Rattle.section.specs.Units.{weight, distance}
 use Rattle.influence.specs.Influence.{total, per_metre, behind}
 use Rattle.section.specs.Greatest.{top}
-use Rattle.influence.specs.Scaled.{scaled_height, scaled_sum, apex_top}
+use Rattle.influence.specs.Scaled.{scaled_height, scaled_sum, apex_top, scaled_greatest}
 use Rattle.influence.specs.Bounds.{Bounded}
 use Rattle.influence.proofs.Folds.{total_cap, total_more, total_rest}
 use Rattle.section.proofs.Greatest.{of_top, top_next}
@@ -110,3 +115,17 @@ module _ {U P n : ℕ} {ws : List Kgf} {ds : List Cm} (h : Bounded U P n ws ds) 
         weights = h.weights;
         distances = h.distances;
       }
+
+-- in either direction of travel
+pub greatest_cap : {U P n : ℕ} {ws : List Kgf} {ds : List Cm} → Bounded U P n ws ds → scaled_greatest U P (weight ws) (behind ds) n ≤ 320000000000000
+unfolding scaled_greatest
+greatest_cap h = omega (arith, apex_top_cap h, apex_top_cap (mirrored_bounded h), h.axles)
+
+-- the greater of two sums by their order
+pub higher : (a b : ScaledSum) → (cond (is_lt (cond (leb (suc b.0) a.0) Less (cond (eqb b.0 a.0) Equal Greater))) a b).0 ≡ max a.0 b.0
+higher a b = go (leb (suc b.0) a.0) refl (eqb b.0 a.0)
+  where
+    go : (t : Bool) → leb (suc b.0) a.0 ≡ t → (e : Bool) → (cond (is_lt (cond t Less (cond e Equal Greater))) a b).0 ≡ max a.0 b.0
+    go true p e = omega (arith, leb-true (suc b.0) a.0 p)
+    go false p true = omega (arith, leb-false (suc b.0) a.0 p)
+    go false p false = omega (arith, leb-false (suc b.0) a.0 p)

@@ -1,3 +1,4 @@
 pub mod Influence
 pub mod Bounds
 pub mod Scaled
+pub mod Rows

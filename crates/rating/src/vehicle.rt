@@ -4,7 +4,8 @@ ghost use Rattle.section.specs.Units.{FitsSigned};
 ghost use Rattle.member.specs.Format.{AllowedMember, AllowedVehicle};
 ghost use Rattle.rating.specs.VehicleLoad.{influence_line, vehicle_load_on};
 
-use influence::{HalfCm, half_cm, half_of, vehicle_load};
+use influence::axles::Axles;
+use influence::{HalfCm, Line, half_cm, half_of, vehicle_load};
 use member::kind::Kind;
 use member::record::{Member, Vehicle};
 use section::{Cm, KgfPerM};
@@ -45,5 +46,13 @@ pub fn vehicle_load_on(m: Member, v: Vehicle) -> KgfPerM
     ensures is { result.0 ≡ vehicle_load_on m v }
     ensures cap { FitsSigned result.0 }
 {
-    vehicle_load(base_of(m), apex_of(m), v.axles, v.weights, v.distances)
+    let line = Line {
+        base: base_of(m),
+        apex: apex_of(m),
+    };
+    let axles = Axles {
+        weights: &v.weights[..v.axles],
+        distances: &v.distances[..v.axles],
+    };
+    vehicle_load(line, axles)
 }

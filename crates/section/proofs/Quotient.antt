@@ -1,8 +1,8 @@
--- The quotient of a product by parts: n · k / d = (n / d) · k + (n % d) · k / d, and that each part fits where k is at most d.
+-- The quotient of a product by parts: n · k / d = (n / d) · k + (n % d) · k / d, and that it fits where k is at most d.
 -- Assumes nothing.
 use Prim.Native.Nat.{ℕ, ◌+◌, ◌*◌, ◌/◌, ◌%◌, ◌≤◌, ◌<◌}
 use mathlib.Core.Path.{◌≡◌, ap, sym, ◌∙◌}
-use native.Mathlib.Nat.{div-add-mod', mod-lt, mul-add-div_right, mul-le-mul_left, mul-le-mul_right, div-le_of_le-mul}
+use native.Mathlib.Nat.{div-add-mod', mul-add-div_right, mul-le-mul_left, div-le_of_le-mul}
 use native.Mathlib.Omega.{arith}
 
 pub by_parts : (n k d : ℕ) → 0 < d → n / d * k + n % d * k / d ≡ n * k / d
@@ -10,9 +10,6 @@ by_parts n k d s = sym (mul-add-div_right s (n / d * k) (n % d * k)) ∙ ap (λ 
 
 pub first_part : (n k d : ℕ) → k ≤ d → n / d * k ≤ n
 first_part n k d h = omega (arith, mul-le-mul_left (n / d) h, div-add-mod' n d)
-
-pub second_part : (n k d : ℕ) → 0 < d → n % d * k ≤ d * k
-second_part n k d s = mul-le-mul_right k (omega (arith, mod-lt n s))
 
 pub both_parts : (n k d : ℕ) → k ≤ d → n / d * k + n % d * k / d ≤ n
 both_parts n k d h =

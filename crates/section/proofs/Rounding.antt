@@ -1,10 +1,11 @@
 -- Rounding once: down is never above and less than one below, up is never below and less than one above; and both keep the
 -- order. The quotient of two whole numbers is all that they rest on.
 -- Assumes nothing.
-use Prim.Native.Nat.{ℕ, ◌+◌, ◌-◌, ◌*◌, ◌/◌, ◌≤◌, ◌<◌}
+use Prim.Native.Nat.{ℕ, ◌+◌, ◌-◌, ◌*◌, ◌/◌, ◌%◌, ◌≤◌, ◌<◌, min}
 use mathlib.Core.Path.{◌≡◌}
 use native.Mathlib.Nat.{le_antisymm, le-div_iff_mul-le, div-lt_iff_lt-mul, le_of_suc-le-suc, lt-mul-div-succ, mul-div-le, mul-le-mul_right, le_of_mul-le-mul_right}
 use native.Mathlib.Omega.{arith}
+use Rattle.std.proofs.lemmas.Grind.{div_ceil_times}
 use Rattle.section.specs.Fraction.{Fraction, Sound, whole, floor, ceiling, ◌⊕◌, ◌⊑◌, ◌≐◌, RoundedDown, RoundedUp}
 use Rattle.section.proofs.Order.{≐_⊑, ≐_⊒}
 
@@ -14,6 +15,16 @@ quotient_below n d = omega (arith, mul-div-le n d)
 
 quotient_near : (n d : ℕ) → 0 < d → n < n / d * d + d
 quotient_near n d s = omega (arith, lt-mul-div-succ n s)
+
+quotient_least : (n d k : ℕ) → 0 < d → n < k * d + d → n / d ≤ k
+quotient_least n d k z l = le_of_suc-le-suc ((div-lt_iff_lt-mul z).1 (omega arith))
+
+-- the library's quotient, one more where a rest is left
+pub ceiling_div : (n d : ℕ) → 0 < d → n / d + min 1 (n % d) ≡ (n + (d - 1)) / d
+ceiling_div n d s =
+    let times = div_ceil_times n d s in
+    le_antisymm ((le-div_iff_mul-le s).1 (omega (arith, times.1)))
+    (quotient_least (n + (d - 1)) d _ s (omega (arith, times.0)))
 
 pub rounded_down : (a : Fraction) → Sound a → RoundedDown a (floor a)
 unfolding floor whole
@@ -30,6 +41,9 @@ rounded_up a s =
       never_below = omega (arith, quotient_near (a.num + (a.den - 1)) a.den s.above_0);
       near = omega (arith, quotient_below (a.num + (a.den - 1)) a.den);
     }
+
+pub rounded_up_is : {a : Fraction} {r : ℕ} → Sound a → r ≡ ceiling a → RoundedUp a r
+rounded_up_is {a} s e = rw e (rounded_up a s)
 
 -- a whole number that is at most the greater of two is at most what that is rounded down to
 pub floor_greatest : (r : ℕ) {a b : Fraction} → Sound a → Sound b → whole r ⊑ a → a ⊑ b → r ≤ floor b
@@ -50,11 +64,8 @@ floor_same s t e = le_antisymm (floor_mono s t (≐_⊑ e)) (floor_mono t s (≐
 pub ceiling_least : (r : ℕ) {a b : Fraction} → Sound a → Sound b → a ⊑ b → b ⊑ whole r → ceiling a ≤ r
 unfolding ceiling whole
 ceiling_least r {a} {b} s t p h =
-    div_le_of_lt_mul (a.num + (a.den - 1)) a.den r s.above_0
+    quotient_least (a.num + (a.den - 1)) a.den r s.above_0
     (omega (arith, s.above_0, le_of_mul-le-mul_right {m = a.num} {n = r * a.den} {k = b.den} (omega (arith, mul-le-mul_right a.den h.out, p.out)) t.above_0))
-  where
-    div_le_of_lt_mul : (n d k : ℕ) → 0 < d → n < k * d + d → n / d ≤ k
-    div_le_of_lt_mul n d k z l = le_of_suc-le-suc ((div-lt_iff_lt-mul z).1 (omega arith))
 
 pub ceiling_mono : {a b : Fraction} → Sound a → Sound b → a ⊑ b → ceiling a ≤ ceiling b
 ceiling_mono {a} {b} s t p = ceiling_least (ceiling b) s t p (rounded_up b t).never_below

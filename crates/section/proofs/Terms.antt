@@ -1,11 +1,14 @@
 -- The least term of a dowel: it never rises with the rot, and hundredths of it are the least of the terms' hundredths.
 -- Assumes nothing.
 use Prim.Native.Nat.{ℕ, ◌+◌, ◌-◌, ◌*◌, ◌≤◌, min}
+use mathlib.Core.Path.{◌≡◌, refl}
 use mathlib.Core.Bool.{Bool, true, false}
 use native.Mathlib.Omega.{arith}
 use lib.Dec.{eqb}
 use Rattle.section.specs.Choose.{choose}
 use Rattle.section.specs.Fraction.{Fraction, Sound, over, whole, tenths, square, ◌·◌, ◌⊕◌, ◌⊑◌, ◌≐◌}
+use Rattle.section.specs.declared.dowel.Material.TheVariants.{Steel, Nail, Oak}
+use Rattle.section.specs.Material.{material_term, material_of}
 use Rattle.section.specs.Dowel.{least_term, term_of, dowel_capacity, steel, nail, oak}
 use Rattle.section.proofs.Order.{⊑_refl, ·_mono, ⊕_mono, ·_sound, ⊕_sound, of_lesser, lesser_mono, lesser_scaled, whole_sound, tenths_sound, square_sound, whole_mono, square_mono}
 
@@ -78,3 +81,14 @@ dowel_capacity_falls type d c a rot rot' h =
     of_each (λ T. T (whole (c - rot')) (whole (a - rot')) (tenths d) ⊑ T (whole (c - rot)) (whole (a - rot)) (tenths d))
     (λ p q r s t. least_term_mono p q r s t _ _ _ (whole_sound _) (whole_sound _) (tenths_sound d) (whole_mono (omega arith)) (whole_mono (omega arith)))
     type
+
+-- the material of a type has its term
+pub type_term : (type : ℕ) (c a δ : Fraction) → material_term (material_of type) c a δ ≡ term_of type c a δ
+unfolding term_of
+type_term type c a δ = go (eqb type 1) (eqb type 2)
+  where
+    go : (u v : Bool) →
+        material_term (choose u Steel (choose v Nail Oak)) c a δ ≡ choose u (steel c a δ) (choose v (nail c a δ) (oak c a δ))
+    go true v = refl
+    go false true = refl
+    go false false = refl

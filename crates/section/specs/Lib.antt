@@ -4,6 +4,9 @@ pub mod Dowel
 pub mod Fraction
 pub mod Greatest
 pub mod Log
+pub mod Material
 pub mod Sawn
+pub mod Sizes
 pub mod Species
+pub mod SpeciesCode
 pub mod Units

@@ -3,7 +3,7 @@ ghost use Rattle.std.specs.Prelude.{◌≡◌, ◌≤◌};
 ghost use Rattle.section.specs.Crescent.{crescent_modulus, tiered_crescent};
 
 use crate::Cm;
-use crate::log::log_modulus;
+use crate::log::{log_modulus, tiered};
 
 // The deepest crescent of the printed table: the length of a row below.
 const DEEPEST: u64 = 17;
@@ -94,10 +94,6 @@ pub fn tiered_crescent(s: Crescent) -> u64
     ensures is { result ≡ tiered_crescent s.diameter.0 s.depth.0 s.tiers }
     ensures cap { result ≤ 137400 }
 {
-    let diameter = s.diameter;
-    let depth = s.depth.0;
-    let tiers = s.tiers;
-    let top = crescent_modulus(diameter, Cm(depth));
-    let sound = crescent_modulus(diameter, Cm(0));
-    top + (tiers - 1) * sound
+    let top = crescent_modulus(s.diameter, s.depth);
+    tiered(top, crescent_modulus(s.diameter, Cm(0)), s.tiers)
 }

@@ -3,23 +3,24 @@
 ghost use Rattle.std.specs.Prelude.{◌≡◌, ◌+◌, ◌-◌, ◌*◌, ◌/◌, ◌^◌, ◌<◌, ◌≤◌, min, max};
 ghost use Rattle.section.specs.Fraction.{over, floor, ceiling, RoundedDown, RoundedUp};
 
+// Stays: `less`, `lesser` and `greater` are public, and six must-fail edits stand on them, from subtraction_turned_round to second_for_greater.
 // a less b, and 0 where that would fall below 0.
 pub fn less(a: u64, b: u64) -> u64
     ensures { result ≡ a - b }
 {
-    if b <= a { a - b } else { 0 }
+    a.saturating_sub(b)
 }
 
 pub fn lesser(a: u64, b: u64) -> u64
     ensures { result ≡ min a b }
 {
-    if a <= b { a } else { b }
+    a.min(b)
 }
 
 pub fn greater(a: u64, b: u64) -> u64
     ensures { result ≡ max a b }
 {
-    if a < b { b } else { a }
+    a.max(b)
 }
 
 // n over d, rounded down once.
@@ -33,11 +34,11 @@ pub fn round_down(n: u64, d: u64) -> u64
 
 // n over d, rounded up once.
 pub fn round_up(n: u64, d: u64) -> u64
-    requires { (0 < d) × (n + d ≤ 2 ^ 64) }
+    requires { 0 < d }
     ensures is { result ≡ ceiling (over n d) }
     ensures once { RoundedUp (over n d) result }
 {
-    (n + (d - 1)) / d
+    n.div_ceil(d)
 }
 
 // n times k over d, rounded down once, where the product n times k need not fit 64 bits: the whole part of n over d, and the rest.

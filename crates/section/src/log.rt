@@ -1,6 +1,7 @@
 // Section modulus of logs, in cm³.
-ghost use Rattle.std.specs.Prelude.{◌≡◌, ◌≤◌};
+ghost use Rattle.std.specs.Prelude.{◌≡◌, ◌+◌, ◌-◌, ◌*◌, ◌^◌, ◌<◌, ◌≤◌};
 ghost use Rattle.section.specs.Log.{net_diameter, log_modulus, tiered_modulus};
+ghost use Rattle.section.specs.Sizes.{LogSizes};
 
 use crate::Cm;
 use crate::fraction::less;
@@ -14,20 +15,32 @@ const MODULUS: [u64; 27] = [
 // Rot counts all round.
 pub fn net_diameter(diameter: Cm, rot: Cm) -> Cm
     requires { rot.0 ≤ 60 }
-    ensures { result.0 ≡ net_diameter diameter.0 rot.0 }
+    ensures is { result.0 ≡ net_diameter diameter.0 rot.0 }
+    ensures cap { result.0 ≤ diameter.0 }
 {
     Cm(less(diameter.0, 2 * rot.0))
 }
 
 pub fn log_modulus(net: Cm) -> u64
     requires { net.0 ≤ 39 }
-    ensures { result ≡ log_modulus net.0 }
+    ensures is { result ≡ log_modulus net.0 }
+    ensures cap { result ≤ 5824 }
 {
     if net.0 < 13 {
         return 0;
     }
     let at = (net.0 - 13) as usize;
     MODULUS[at]
+}
+
+// The sum over logs that lie one on another: the top one is decayed, the others are sound.
+pub fn tiered(top: u64, sound: u64, tiers: u64) -> u64
+    requires { (top < 2 ^ 32) × (sound < 2 ^ 32) × (1 ≤ tiers) × (tiers ≤ 3) }
+    ensures is { result ≡ top + (tiers - 1) * sound }
+    ensures cap { result ≤ top + 2 * sound }
+{
+    let below = tiers - 1;
+    top + below * sound
 }
 
 // Logs that lie one on another in tiers, each of this diameter, with the rot of the top one.
@@ -38,13 +51,10 @@ pub struct Log {
     pub tiers: u64,
 }
 
-// The top log is decayed, the others sound.
 pub fn tiered_modulus(s: Log) -> u64
-    requires { (s.diameter.0 ≤ 39) × (s.rot.0 ≤ 60) × (1 ≤ s.tiers) × (s.tiers ≤ 3) }
+    requires { LogSizes s }
     ensures { result ≡ tiered_modulus s.diameter.0 s.rot.0 s.tiers }
 {
-    let diameter = s.diameter;
-    let rot = s.rot;
-    let tiers = s.tiers;
-    log_modulus(net_diameter(diameter, rot)) + (tiers - 1) * log_modulus(diameter)
+    let top = log_modulus(net_diameter(s.diameter, s.rot));
+    tiered(top, log_modulus(s.diameter), s.tiers)
 }

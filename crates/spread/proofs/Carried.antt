@@ -133,6 +133,10 @@ module _ (k d E : ℕ) (s : Shares) (h : SharesOf (spread_of (ten_thousandths k)
       ceiling_same (over_sound _ _ divisor_above_0) (·_sound (greatest_sound (sensible k) d E pd) (whole_sound 10000))
       (≐_trans (·_sound (over_sound most _ divisor_above_0) (whole_sound 10000)) multiplied (·_same most_is ≐_refl))
 
+-- a part times a number that is at most the greatest spacing
+pub share_high : {s : Shares} {x p : ℕ} (k : ℕ) → Bounded s → p ≡ part s k → x ≤ 100 → x * p ≤ 900000000000000
+share_high k b e h = product_cap 100 9000000000000 h (omega (arith, e, b.parts k, b.room))
+
 -- no stringer carries more than twice the loaded stringer's share
 pub most_cap : {s : Shares} (d m r n : ℕ) → Bounded s → r ≤ d → top (scaled_carried s d m r) n ≤ 2 * (s.own * d)
 unfolding scaled_carried

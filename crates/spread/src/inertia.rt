@@ -1,11 +1,12 @@
 // Moments of inertia in twelfths of a cm⁴, which make all of them whole numbers.
 ghost use Rattle.std.specs.Prelude.{◌≤◌};
 ghost use Rattle.section.specs.Fraction.{over, ◌≐◌};
+ghost use Rattle.section.specs.Sizes.{LogSizes, SawnSizes};
 ghost use Rattle.spread.specs.Inertia.{log_inertia, tiered_inertia, sawn_inertia, deck_inertia};
 
 use section::Cm;
 use section::fraction::less;
-use section::log::{Log, log_modulus, net_diameter};
+use section::log::{Log, log_modulus, net_diameter, tiered};
 use section::sawn::{Sawn, sawn_modulus_sixths};
 
 // One log: W times half the net diameter.
@@ -19,25 +20,21 @@ fn log_inertia(net: Cm) -> u64
 
 // The top log is decayed, the others sound.
 pub fn tiered_inertia(s: Log) -> u64
-    requires { (s.diameter.0 ≤ 39) × (s.rot.0 ≤ 60) × (1 ≤ s.tiers) × (s.tiers ≤ 3) }
+    requires { LogSizes s }
     ensures is { over result 12 ≐ tiered_inertia s.diameter.0 s.rot.0 s.tiers }
     ensures cap { result ≤ 4088448 }
 {
-    let diameter = s.diameter;
-    let rot = s.rot;
-    let tiers = s.tiers;
-    log_inertia(net_diameter(diameter, rot)) + (tiers - 1) * log_inertia(diameter)
+    let top = log_inertia(net_diameter(s.diameter, s.rot));
+    tiered(top, log_inertia(s.diameter), s.tiers)
 }
 
 // Sawn beams side by side.
 pub fn sawn_inertia(s: Sawn) -> u64
-    requires { (s.width.0 ≤ 60) × (s.height.0 ≤ 60) × (s.pieces ≤ 40) }
+    requires { SawnSizes s }
     ensures is { over result 12 ≐ sawn_inertia s.width.0 s.height.0 s.side_rot.0 s.top_rot.0 s.pieces }
     ensures cap { result ≤ 518400000 }
 {
-    let height = s.height;
-    let top_rot = s.top_rot;
-    sawn_modulus_sixths(s) * less(height.0, top_rot.0)
+    sawn_modulus_sixths(s) * s.net_height()
 }
 
 // The boards of a deck: how many, their thickness and width, and the rot of their thickness.

@@ -5,6 +5,8 @@ ghost use Rattle.spread.specs.Spread.{three_stringers, five_stringers, seven_str
 ghost use Rattle.spread.specs.Stiffness.{ten_thousandths};
 ghost use Rattle.spread.specs.Scaled.{part, SharesOf, Bounded};
 
+// Stays: that they are `Bounded` is a clause of each function. docs/ARCHITECTURE.md names `Bounded.room`, and `Bounded` names `Shares`, so no ghost
+// field of `Shares` can cite it.
 // Of the loaded stringer and of those one, two and three spacings from it.
 #[derive(Clone, Copy)]
 pub struct Shares {
@@ -86,21 +88,17 @@ pub fn shares_of(k: u64) -> Shares
     three_stringers(k)
 }
 
-// The share of a stringer that stands this many spacings away; those farther off have none.
-pub fn share_at(s: Shares, away: u64) -> u64
-    ensures { result ≡ part s away }
-{
-    if away == 0 {
-        return s.own;
+impl Shares {
+    // The share of a stringer that stands this many spacings away; those farther off have none.
+    pub fn share_at(self, away: u64) -> u64
+        ensures { result ≡ part self away }
+    {
+        match away {
+            0 => self.own,
+            1 => self.next,
+            2 => self.second,
+            3 => self.third,
+            _ => 0,
+        }
     }
-    if away == 1 {
-        return s.next;
-    }
-    if away == 2 {
-        return s.second;
-    }
-    if away == 3 {
-        return s.third;
-    }
-    0
 }

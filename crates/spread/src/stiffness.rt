@@ -4,7 +4,7 @@ ghost use Rattle.section.specs.Fraction.{over, whole};
 ghost use Rattle.spread.specs.Stiffness.{stiffness_number};
 
 use section::Cm;
-use section::fraction::{lesser, quotient, round_down};
+use section::fraction::{quotient, round_down};
 
 const GREATEST: u64 = 100000;
 
@@ -21,5 +21,5 @@ pub fn stiffness_number(d: Cm, inertia: u64, l: Cm, deck: u64) -> u64
     let front = 8 * (d.0 * d.0 * d.0) * inertia;
     let divisor = l.0 * l.0 * l.0 * deck;
     let doubled = quotient(1000 * front, 20, divisor);
-    lesser(round_down(doubled + 1, 2), GREATEST)
+    round_down(doubled + 1, 2).min(GREATEST)
 }

@@ -2,7 +2,7 @@
 -- table, which passes the test that it agrees with the definition.
 -- Assumes nothing.
 use Prim.Native.Nat.{◌≤◌, ◌<◌}
-use mathlib.Core.Path.{◌≡◌}
+use mathlib.Core.Path.{◌≡◌, refl}
 use native.Mathlib.Omega.{arith}
 use Rattle.section.specs.Crescent.{crescent_modulus, crescent_row, crescent_table}
 use Rattle.section.specs.Log.{log_modulus, log_table}
@@ -13,19 +13,14 @@ use Rattle.section.proofs.crescent.crescent_modulus.Goals as goal
 
 sound : (c : goal.After-log_modulus) → c.log_modulus.result ≤ 4580
 unfolding log_modulus log_table
-sound c =
-    let a = c.args in
-    rw c.log_modulus.ensures (log_modulus_mono a.diameter.0 36 (omega arith) (omega arith))
-
-pub overflow_mul-result : goal.overflow_mul-result
-overflow_mul-result c = omega (arith, sound c)
+sound c = rw c.log_modulus.ensures.is (log_modulus_mono c.args.diameter.0 36 (omega arith) (omega arith))
 
 pub returns-then-depth-eq0 : goal.returns-then-depth-eq0
 returns-then-depth-eq0 c =
     let a = c.args in
     let none : a.depth.0 ≡ 0 = omega arith in
     record {
-      is = rw (none, sound_crescent a.diameter.0, c.log_modulus.ensures);
+      is = rw (none, sound_crescent a.diameter.0, c.log_modulus.ensures.is) refl;
       cap = omega (arith, sound c);
     }
 

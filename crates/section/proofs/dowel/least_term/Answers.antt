@@ -3,16 +3,22 @@
 use Prim.Native.Nat.{◌+◌, ◌*◌, ◌≤◌, min}
 use mathlib.Core.Path.{◌≡◌}
 use native.Mathlib.Omega.{arith}
+use Rattle.section.proofs.Products.{product_cap}
 use Rattle.section.proofs.Terms.{least_term_hundredths}
 use Rattle.section.proofs.dowel.least_term.Goals as goal
 
-pub returns : goal.returns
-returns c =
+pub returns-clause-is : goal.returns-clause-is
+returns-clause-is c =
     let a = c.args in
+    let k = a.k in
     let terms : c.lesser-3.result ≡
-    min (10 * a.p * (a.c * a.d))
-    (min (10 * a.q * (a.a * a.d)) (min (a.r * (a.d * a.d) + 100 * a.s * (a.a * a.a)) (a.t * (a.d * a.d)))) = cc in
-    let stiff : c.term-stiff.result ≤ a.t * 3600 = c.term-stiff.ensures.cap in record {
-      is = rw terms (least_term_hundredths a.p a.q a.r a.s a.t a.c a.a a.d);
-      cap = omega (arith, c.lesser-3.ensures, c.lesser-2.ensures, c.lesser.ensures, c.requires);
-    }
+    min (10 * k.p * (a.c * a.d))
+    (min (10 * k.q * (a.a * a.d)) (min (k.r * (a.d * a.d) + 100 * k.s * (a.a * a.a)) (k.t * (a.d * a.d)))) = cc in
+    rw terms (least_term_hundredths k.p k.q k.r k.s k.t a.c a.a a.d)
+
+pub returns-clause-cap : goal.returns-clause-cap
+returns-clause-cap c =
+    let a = c.args in
+    let square : a.d * a.d ≤ 3600 = product_cap 60 60 (omega arith) (omega arith) in
+    let stiff : a.k.t * (a.d * a.d) ≤ 1332000 = product_cap 370 3600 a.k.small.4 square in
+    omega (arith, c.lesser-3.ensures, c.lesser-2.ensures, c.lesser.ensures)

@@ -4,7 +4,7 @@ use mathlib.Core.Path.{◌≡◌}
 use Prim.Native.Nat.{◌*◌, ◌/◌, ◌%◌}
 use native.Mathlib.Omega.{arith}
 use Rattle.section.specs.Fraction.{over, floor}
-use Rattle.section.proofs.Quotient.{by_parts, first_part, second_part, both_parts}
+use Rattle.section.proofs.Quotient.{by_parts, first_part, both_parts}
 use Rattle.section.proofs.fraction.quotient.Goals as goal
 
 whole_part : (c : goal.After-round_down) → c.round_down.result ≡ c.args.n / c.args.d
@@ -19,9 +19,6 @@ pub overflow_mul-result : goal.overflow_mul-result
 overflow_mul-result c =
     let a = c.args in
     rw (whole_part c) (omega (arith, first_part a.n a.k a.d c.requires.1))
-
-pub overflow_mul-n : goal.overflow_mul-n
-overflow_mul-n c = let a = c.args in omega (arith, second_part a.n a.k a.d c.requires.0)
 
 pub overflow_add-result : goal.overflow_add-result
 overflow_add-result c =

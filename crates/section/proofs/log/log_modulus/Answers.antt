@@ -3,12 +3,16 @@
 use native.Mathlib.Omega.{arith}
 use borrow.Author.Tests.{lt-leb, le-leb}
 use Rattle.section.specs.Log.{log_modulus, log_table}
+use Rattle.section.proofs.Table.{at_most_lem}
 use Rattle.section.proofs.log.log_modulus.Goals as goal
 
-pub returns-then-net-lt13 : goal.returns-then-net-lt13
+pub returns-then-net-lt13-clause-is : goal.returns-then-net-lt13-clause-is
 unfolding log_modulus
-returns-then-net-lt13 c = simp (lt-leb _ _ c.if-net-lt13.true)
+returns-then-net-lt13-clause-is c = simp (lt-leb _ _ c.if-net-lt13.true)
 
-pub returns : goal.returns
+pub returns-clause-is : goal.returns-clause-is
 unfolding log_modulus log_table
-returns c = rw (le-leb 13 c.args.net.0 (omega arith))
+returns-clause-is c = rw (le-leb 13 c.args.net.0 (omega arith))
+
+pub returns-clause-cap : goal.returns-clause-cap
+returns-clause-cap c = search at_most_lem

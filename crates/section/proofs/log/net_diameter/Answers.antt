@@ -3,6 +3,6 @@
 use Rattle.section.specs.Log.{net_diameter}
 use Rattle.section.proofs.log.net_diameter.Goals as goal
 
-pub returns : goal.returns
+pub returns-clause-is : goal.returns-clause-is
 unfolding net_diameter
-returns c = c.less.ensures
+returns-clause-is c = c.less.ensures

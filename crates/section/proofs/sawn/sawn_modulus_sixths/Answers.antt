@@ -6,22 +6,11 @@ use Rattle.section.specs.Fraction.{over, whole, square, ◌·◌, ◌÷◌}
 use Rattle.section.specs.Sawn.{sawn_modulus}
 use Rattle.section.proofs.sawn.sawn_modulus_sixths.Goals as goal
 
-sizes : (c : goal.After-less-h) → BeamCaps c.args.s.pieces c.less-b.result c.less-h.result
-sizes c = beam_caps _ _ _ (omega arith) (omega arith) (omega arith)
-
-pub overflow_mul-result : goal.overflow_mul-result
-overflow_mul-result c = omega (arith, sizes c)
-
-pub overflow_mul-result-2 : goal.overflow_mul-result-2
-overflow_mul-result-2 c = omega (arith, sizes c)
-
-pub overflow_mul-result-3 : goal.overflow_mul-result-3
-overflow_mul-result-3 c = omega (arith, sizes c)
-
-pub returns : goal.returns
+pub returns-clause-is : goal.returns-clause-is
 unfolding sawn_modulus over whole square ◌·◌ ◌÷◌
-returns c =
-    record {
-      is = rw (← c.less-h.ensures, ← c.less-b.ensures) (omega arith);
-      cap = omega (arith, sizes c);
-    }
+returns-clause-is c = rw (← c.net_height-h.ensures, ← c.net_width.ensures) (omega arith)
+
+pub returns-clause-cap : goal.returns-clause-cap
+returns-clause-cap c =
+    let caps : BeamCaps c.args.s.pieces c.net_width.result c.net_height-h.result = beam_caps _ _ _ (omega arith) (omega arith) (omega arith) in
+    omega arith

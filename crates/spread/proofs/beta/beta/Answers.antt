@@ -1,57 +1,32 @@
 -- `spread::beta::beta` meets its contract: the greatest over the divisor, times 10,000, rounded up once.
 -- Assumes nothing.
-use Prim.Native.Nat.{◌+◌, ◌*◌, ◌/◌, ◌%◌, ◌≤◌, ◌<◌}
-use mathlib.Core.Path.{◌∙◌}
-use native.Mathlib.Nat.{mod-lt, mul-pos, mul-le-mul_left, div-mul-le_self}
+use Prim.Native.Nat.{ℕ, ◌+◌, ◌*◌, ◌/◌, ◌%◌, ◌≤◌, ◌<◌}
+use mathlib.Core.Path.{◌≡◌, ◌∙◌}
+use native.Mathlib.Nat.{mod-lt, mul-pos}
 use native.Mathlib.Omega.{arith}
+use Rattle.section.specs.Greatest.{top}
+use Rattle.spread.specs.Scaled.{Bounded, scaled_carried}
+use Rattle.spread.specs.declared.shares.Shares.{Shares}
 use Rattle.spread.proofs.Carried.{beta_whole, most_cap, most_fits, rounded_cap}
 use Rattle.spread.proofs.beta.beta.Goals as goal
 
--- the rest is below the spacing, and there are not more spacings than a tenth of the track
-rest_below : (c : goal.After-struct_known-4-1) → let a = c.args in a.track.0 % a.d.0 ≤ a.d.0
-rest_below c = omega (arith, mod-lt c.args.track.0 {m = c.args.d.0} (omega arith))
-
-spacings-few : (c : goal.After-struct_known-4-1) → let a = c.args in a.track.0 / a.d.0 * 10 ≤ a.track.0
-spacings-few c =
-    let a = c.args in
-    let most : a.track.0 / a.d.0 * 10 ≤ a.track.0 / a.d.0 * a.d.0 = mul-le-mul_left _ (omega arith) in
-    omega (arith, most, div-mul-le_self a.track.0 a.d.0)
-
-pub greatest_carried-requires : goal.greatest_carried-requires
-greatest_carried-requires c =
-    let at = c in
-    (at.shares_of-s.ensures.bounded, omega arith, rest_below c, omega (arith, spacings-few c))
-
--- what was found, and what is computed of it
-found : (c : goal.After-greatest_carried) → let at = c in c.greatest_carried.result ≤ 2 * (at.shares_of-s.result.own * at.args.d.0)
-found c =
-    let at = c in
-    rw c.greatest_carried.ensures (most_cap _ _ _ _ at.shares_of-s.ensures.bounded (rest_below c.before))
-
-fits : (c : goal.After-greatest_carried) → let at = c in 10000 * c.greatest_carried.result + at.shares_of-s.result.divisor * at.args.d.0 ≤ 18000000000000000000
-fits c = most_fits _ _ c.shares_of-s.ensures.bounded (omega arith) (found c)
+-- what was found is at most twice the loaded stringer's share
+high : {s : Shares} (d E : ℕ) {found : ℕ} → Bounded s → 0 < d → found ≡ top (scaled_carried s d (E / d) (E % d)) (E / d + 8) → found ≤ 2 * (s.own * d)
+high d E b p e = rw e (most_cap _ _ _ _ b (omega (arith, mod-lt E p)))
 
 pub overflow_mul-greatest_carried : goal.overflow_mul-greatest_carried
-overflow_mul-greatest_carried c = omega (arith, fits c)
+overflow_mul-greatest_carried c =
+    let b = c.shares_of-shares.ensures.bounded in
+    omega (arith, most_fits _ _ b (omega arith) (high c.args.d.0 c.args.track.0 b (omega arith) c.greatest_carried.ensures))
 
-pub overflow_mul-s : goal.overflow_mul-s
-overflow_mul-s c = omega (arith, fits c.before.before)
+pub returns-clause-is : goal.returns-clause-is
+returns-clause-is c =
+    let s = c.shares_of-shares in
+    c.round_up.ensures.is ∙
+    rw c.greatest_carried.ensures
+    (beta_whole c.args.k c.args.d.0 c.args.track.0 s.result s.ensures.is s.ensures.bounded (omega arith))
 
-divisor_above_0 : (c : goal.After-struct_known-4-1) → 0 < c.shares_of-s.result.divisor * c.args.d.0
-divisor_above_0 c = mul-pos c.shares_of-s.ensures.bounded.above_0 (omega arith)
-
-pub round_up-requires : goal.round_up-requires
-round_up-requires c =
-    let g = c in
-    let at = g in
-    (divisor_above_0 c.before.before.before, omega (arith, fits c.before.before))
-
-pub returns : goal.returns
-returns c =
-    let g = c in
-    let at = g in
-    let a = at.args in record {
-      is = c.round_up.ensures.is ∙
-          rw g.greatest_carried.ensures (beta_whole a.k a.d.0 a.track.0 at.shares_of-s.result at.shares_of-s.ensures.is at.shares_of-s.ensures.bounded (omega arith));
-      cap = rw c.round_up.ensures.is (rounded_cap _ _ at.shares_of-s.ensures.bounded (divisor_above_0 c.before.before.before.before) (found c.before.before.before));
-    }
+pub returns-clause-cap : goal.returns-clause-cap
+returns-clause-cap c =
+    let b = c.shares_of-shares.ensures.bounded in
+    rw c.round_up.ensures.is (rounded_cap _ _ b (mul-pos b.above_0 (omega arith)) (high c.args.d.0 c.args.track.0 b (omega arith) c.greatest_carried.ensures))

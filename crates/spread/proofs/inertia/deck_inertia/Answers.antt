@@ -3,29 +3,19 @@
 use native.Mathlib.Omega.{arith}
 use Rattle.section.specs.Fraction.{over, whole, cube, ◌·◌, ◌÷◌}
 use Rattle.spread.specs.Inertia.{deck_inertia}
-use Rattle.spread.proofs.Moments.{DeckCaps, deck_caps}
+use Rattle.spread.proofs.Moments.{deck_caps}
 use Rattle.spread.proofs.inertia.deck_inertia.Goals as goal
 
-caps : (c : goal.After-less-net) → let s = c.args.s in DeckCaps c.less-net.result s.width.0 s.boards
-caps c = deck_caps _ _ _ (omega (arith, c.less-net.ensures)) (omega arith) (omega arith)
-
-pub overflow_mul-result : goal.overflow_mul-result
-overflow_mul-result c = omega (arith, caps c)
-
-pub overflow_mul-result-2 : goal.overflow_mul-result-2
-overflow_mul-result-2 c = omega (arith, caps c)
-
-pub overflow_mul-result-3 : goal.overflow_mul-result-3
-overflow_mul-result-3 c = omega (arith, caps c.before)
-
 pub overflow_mul-result-4 : goal.overflow_mul-result-4
-overflow_mul-result-4 c = omega (arith, caps c.before.before)
+overflow_mul-result-4 c =
+    let s = c.args.s in
+    omega (arith, deck_caps c.less-net.result s.width.0 s.boards (omega (arith, c.less-net.ensures)) (omega arith) (omega arith))
 
-pub returns : goal.returns
+pub returns-clause-is : goal.returns-clause-is
 unfolding deck_inertia cube over whole ◌·◌ ◌÷◌
-returns c =
-    let at = c in
-    record {
-      is = rw (← at.less-net.ensures) (record { out = omega arith });
-      cap = omega (arith, caps c.before.before);
-    }
+returns-clause-is c = rw (← c.less-net.ensures) (record { out = omega arith })
+
+pub returns-clause-cap : goal.returns-clause-cap
+returns-clause-cap c =
+    let s = c.args.s in
+    omega (arith, deck_caps c.less-net.result s.width.0 s.boards (omega (arith, c.less-net.ensures)) (omega arith) (omega arith))
