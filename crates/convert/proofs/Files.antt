@@ -2,7 +2,7 @@
 -- Assumes nothing.
 use Prim.Native.Nat.{ℕ, suc, ◌+◌, ◌*◌, ◌≤◌}
 use mathlib.Core.Path.{◌≡◌, refl, ap, ◌∙◌}
-use mathlib.Core.List.{List, [], ◌∷◌, ◌++◌, append_assoc}
+use mathlib.Core.List.{List, ◌++◌, append_assoc}
 use native.Mathlib.Numerals.{add-one}
 use native.Mathlib.Omega.{arith}
 use lib.ListN.{length, take, length-append, length-take}
@@ -23,21 +23,6 @@ pasted row bytes at n first e l m =
     take-paste row at bytes n long (omega (arith, m)) ∙ rw (e, take_all n bytes (omega (arith, m)))
 
 module _ (version : ℕ) (v : Vehicle) where
-  -- the header, number by number
-  pub head_written : (row : List ℕ) → take 3 row ≡ 84 ∷ 66 ∷ 86 ∷ [] →
-      take VEHICLE_HEADER (paste (paste (paste (paste row 3 (bytes_of 2 version) 2) 5 (bytes_of 1 v.class) 1) 6 (bytes_of 2 v.track.0) 2) 8 (bytes_of 1 v.axles) 1) ≡ head_bytes version v
-  head_written row e =
-      let mark : List ℕ = 84 ∷ 66 ∷ 86 ∷ [] in
-      let ver = bytes_of 2 version in
-      let class = bytes_of 1 v.class in
-      let track = bytes_of 2 v.track.0 in
-      let marked = paste row 3 ver 2 in
-      let classed = paste marked 5 class 1 in
-      let versioned = pasted row ver 3 2 mark e refl refl in
-      let with-class = pasted marked class 5 1 (mark ++ ver) versioned refl refl in
-      let with-track = pasted classed track 6 2 (mark ++ ver ++ class) with-class refl refl in
-      pasted (paste classed 6 track 2) (bytes_of 1 v.axles) 8 1 (mark ++ ver ++ class ++ track) with-track refl refl
-
   pub length_axles : (n : ℕ) → length (axles_bytes version v n) ≡ axle_size version * n
   length_axles = length_row (axle_bytes version v) (axle_size version) (λ i. simp length-append (omega (arith, length_bytes (weight_bytes version) (weight v.weights i))))
 

@@ -1,7 +1,6 @@
 -- `heavy_answer` meets its contract. The loop's invariant: the first i weights fit.
 -- Assumes nothing.
-use Rattle.std.specs.Prelude.{Ok, Err}
-use Prim.Native.Nat.{◌-◌, ◌≤◌}
+use Rattle.std.specs.Prelude.{Ok}
 use mathlib.Core.Path.{◌≡◌}
 use Rattle.files.specs.Reading.{first_fault}
 use Rattle.files.specs.Words.{each}
@@ -9,7 +8,4 @@ use Rattle.convert.specs.Convert.{heavy_fault}
 use Rattle.convert.proofs.heavy_answer.Given as goal
 
 abbrev pub invariant-loop-i : goal.invariant-loop-i
-invariant-loop-i l = (l.i ≤ l.axles) × (l.answer ≡ (Ok tt)) × (first_fault 1 (each (heavy_fault l.wanted l.v) l.i) ≡ (Ok tt))
-
-abbrev pub decreases-loop-i : goal.decreases-loop-i
-decreases-loop-i l = l.axles - l.i
+invariant-loop-i l = first_fault 1 (each (heavy_fault l.wanted l.v) l.i) ≡ Ok tt
