@@ -4,3 +4,4 @@ pub mod Surveyed
 pub mod VehicleLoad
 pub mod Judgement
 pub mod Turn
+pub mod Text

@@ -1,5 +1,6 @@
 // A member's rating, and the judgement of a bridge from the ratings of its members.
-ghost use Rattle.std.specs.Prelude.{◌≡◌, ◌+◌, ◌*◌, ◌≤◌, ◌<◌, length, leb, pos, ◌-ℤ◌};
+ghost use Rattle.std.specs.Prelude.{◌≡◌, ◌+◌, ◌*◌, ◌≤◌, ◌<◌, length, leb, pos, ◌-ℤ◌, Some};
+ghost use Rattle.rating.specs.Text.{verdict_text};
 ghost use Rattle.section.specs.Units.{FitsSigned};
 ghost use Rattle.member.specs.Format.{AllowedMember, AllowedVehicle};
 ghost use Rattle.rating.specs.Surveyed.{members_of, AllowedSurvey};
@@ -10,11 +11,23 @@ use crate::vehicle::vehicle_load_on;
 use member::permitted::permitted_load;
 use member::record::*;
 use section::KgfPerM;
+use std::fmt;
 
 #[derive(Clone, Copy, PartialEq, Eq)]
 pub enum Verdict {
     Pass,
     Refuse,
+}
+
+impl fmt::Display for Verdict {
+    ghost output = { λ verdict. Some (verdict_text verdict) };
+
+    fn fmt<W: fmt::Write>(&self, f: &mut fmt::Formatter<W>) -> fmt::Result {
+        f.write_str(match self {
+            Verdict::Pass => "pass",
+            Verdict::Refuse => "refuse",
+        })
+    }
 }
 
 impl Verdict {
