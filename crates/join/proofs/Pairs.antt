@@ -1,20 +1,17 @@
 -- Two survey files: their tests in a row, from what was read, and what passes them all.
 -- Assumes nothing.
-use Rattle.std.specs.Prelude.{Ok, Err}
+use Rattle.std.specs.Prelude.{Result, Ok, Err}
 use Prim.Native.Nat.{ℕ, ◌+◌, ◌*◌, ◌≤◌}
-use mathlib.Core.Path.{◌≡◌, sym, ap, ◌∙◌}
+use mathlib.Core.Path.{◌≡◌, sym}
 use mathlib.Core.List.{List}
 use native.Mathlib.Omega.{arith}
-use lib.Dec.{leb}
 use lib.ListN.{length}
 use borrow.Author.Tests.{leb-true, le-leb}
-use Rattle.files.specs.Reading.{Reading, first_fault, or_else, test, first_refusal}
+use Rattle.files.specs.Reading.{first_fault, first_refusal}
 use Rattle.surveys.specs.SurveyFile.{SURVEY_HEADER, RECORD, count_of, read_survey}
 use Rattle.files.specs.Writing.{written_answer, onto}
 use Rattle.files.specs.declared.Refusal.{Refusal}
-use Rattle.files.specs.declared.output.Written.TheVariants.{Bytes}
-use Rattle.files.specs.declared.output.Written.TheVariants.{Err as NotWritten}
-use Rattle.files.proofs.Faults.{refusal, both_taken, or_none, or_else_row, test_holds, counts_differ, counts_alike, counts_same}
+use Rattle.files.proofs.Faults.{refusal, both_taken, test_holds, counts_differ, counts_alike, counts_same}
 use Rattle.join.specs.Join.{pair_faults, pair_answer, output, join_tests, joined, joined_bytes, joined_out}
 use Rattle.join.proofs.Surveys.{length_survey}
 
@@ -44,22 +41,6 @@ module _ (first second : List ℕ) where
     pub room_enough : length (output first second) ≤ room
 
   module _ (room : ℕ) where
-    -- the tests behind the files' own
-    abbrev behind : Reading
-    behind = or_else (pair_answer first second) (or_else (test 14 (leb (length (output first second)) room)) (Ok tt))
-
-    -- the row of tests: these where both files are taken, else the refusal of one
-    pub tests_are : {pair : Reading} → or_else (read_survey first).answer (read_survey second).answer ≡ (Ok tt) →
-        pair ≡ or_else (pair_answer first second) (test 14 (leb (length (output first second)) room)) →
-        pair ≡ first_refusal (join_tests first second room)
-    tests_are t p =
-        p ∙ ap (or_else (pair_answer first second)) (sym (or_none _)) ∙ ap (λ (files : Reading). or_else files behind) (sym t) ∙ or_else_row (read_survey first).answer (read_survey second).answer behind
-
-    pub tests_refuse : (r : Refusal) → or_else (read_survey first).answer (read_survey second).answer ≡ Err r →
-        or_else (read_survey first).answer (read_survey second).answer ≡ first_refusal (join_tests first second room)
-    tests_refuse r t =
-        t ∙ ap (λ (files : Reading). or_else files behind) (sym t) ∙ or_else_row (read_survey first).answer (read_survey second).answer behind
-
     pub all_passed : first_refusal (join_tests first second room) ≡ (Ok tt) → Passed room
     all_passed e =
         let (a, files) = both_taken _ _ e in
@@ -72,11 +53,11 @@ module _ (first second : List ℕ) where
     passed_all p = rw (p.first_taken, p.second_taken, p.pair, le-leb _ _ p.room_enough)
 
     -- the answer and the output, where no test fails and where one does
-    pub written_given : Passed room → {n : ℕ} → n ≡ length (output first second) → written_answer (Bytes n) ≡ joined first second room
+    pub written_given : Passed room → {n : ℕ} → n ≡ length (output first second) → written_answer (Ok n) ≡ joined first second room
     unfolding joined
     written_given p e = rw (passed_all p, e)
 
-    pub refusal_given : (r : Refusal) → first_refusal (join_tests first second room) ≡ Err r → written_answer (NotWritten r) ≡ joined first second room
+    refusal_given : (r : Refusal) → first_refusal (join_tests first second room) ≡ Err r → written_answer (Err r) ≡ joined first second room
     unfolding joined
     refusal_given r e = rw e
 
@@ -87,3 +68,8 @@ module _ (first second : List ℕ) where
   pub out_kept : (out : List ℕ) (r : Refusal) → first_refusal (join_tests first second (length out)) ≡ Err r → joined_out first second out ≡ out
   unfolding joined_bytes
   out_kept out r e = rw e
+
+  -- both of a call that is refused
+  pub refused : (out : List ℕ) {a : Result ℕ Refusal} (r : Refusal) → a ≡ Err r → first_refusal (join_tests first second (length out)) ≡ Err r →
+      (written_answer a ≡ joined first second (length out)) × (out ≡ joined_out first second out)
+  refused out r is e = (rw is (refusal_given (length out) r e), sym (out_kept out r e))

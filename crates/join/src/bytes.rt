@@ -5,7 +5,6 @@ ghost use Rattle.surveys.specs.SurveyFile.{SURVEY_HEADER, RECORD};
 ghost use Rattle.join.specs.SurveyBytes.{head_bytes, record_bytes};
 
 use files::output::put_number;
-use files::words::{wider, widest};
 use member::record::{FIELDS, Member};
 
 const VERSION: u64 = 1;
@@ -27,10 +26,7 @@ pub fn put_record(out: &mut [u8], at: usize, m: Member)
     requires { at + RECORD ≤ length out.old }
     ensures { out.new ≡ paste out.old at (record_bytes m) RECORD }
 {
-    let mut f: usize = 0;
-    while f < FIELDS {
-        let number = widest(wider(m.fields[f]));
-        put_number(out, at + 2 * f, 2, number);
-        f += 1;
+    for f in 0..FIELDS {
+        put_number(out, at + 2 * f, 2, u64::from(m.fields[f]));
     }
 }

@@ -1,113 +1,54 @@
 // Two readings of one record: whether they may be joined, and the record that they give.
-ghost use Rattle.std.specs.Prelude.{◌≡◌, ◌&&◌, ◌+◌, ◌/◌, leb};
-ghost use Rattle.join.specs.Rule.{agrees, near, joined_number};
-ghost use Rattle.join.specs.Join.{join_fault, joined_member};
+ghost use Rattle.std.specs.Prelude.{◌≡◌, ◌<◌};
+ghost use Rattle.member.specs.Fields.{FIELDS};
+ghost use Rattle.files.specs.Fault.{fault_of};
+ghost use Rattle.join.specs.Join.{rule_at, field_agrees, field_near, join_fault, joined_field, joined_member};
 
 use crate::rule::{Rule, rule_of};
-use files::words::wider;
+use files::fault::Fault;
 use member::record::{CODE, FIELDS, KIND, Member};
 
-// Where the readings must agree, they do.
-fn readings_agree(rule: Rule, x: u16, y: u16) -> bool
-    ensures { result ≡ agrees rule x y }
+// The rule of a field, by the record's own kind and code.
+fn rule_at(m: Member, f: usize) -> Rule
+    ensures { result ≡ rule_at m f }
 {
-    match rule {
-        Rule::MustAgree => x == y,
-        Rule::MeanUp(_) => true,
-        Rule::MeanDown(_) => true,
-        Rule::AnyMeanUp => true,
-    }
+    rule_of(m.fields[KIND], m.fields[CODE], f)
 }
 
-// Two readings differ by so much or less.
-fn is_within(apart: u16, x: u16, y: u16) -> bool
-    ensures { result ≡ (leb x (y + apart) && leb y (x + apart)) }
+fn field_agrees(m: Member, n: Member, f: usize) -> bool
+    requires { f < FIELDS }
+    ensures { result ≡ field_agrees m n f }
 {
-    let most = wider(apart);
-    let a = wider(x);
-    let b = wider(y);
-    let above = a <= b + most;
-    let below = b <= a + most;
-    above & below
+    rule_at(m, f).agrees(m.fields[f], n.fields[f])
 }
 
-// Where the readings may differ by so much only, they differ by no more.
-fn readings_near(rule: Rule, x: u16, y: u16) -> bool
-    ensures { result ≡ near rule x y }
+fn field_near(m: Member, n: Member, f: usize) -> bool
+    requires { f < FIELDS }
+    ensures { result ≡ field_near m n f }
 {
-    match rule {
-        Rule::MustAgree => true,
-        Rule::MeanUp(apart) => is_within(apart, x, y),
-        Rule::MeanDown(apart) => is_within(apart, x, y),
-        Rule::AnyMeanUp => true,
-    }
+    rule_at(m, f).near(m.fields[f], n.fields[f])
 }
 
-// The mean, an odd half up or down.
-fn mean_up(x: u16, y: u16) -> u16
-    ensures { result ≡ (x + y + 1) / 2 }
+// 18 where fields that must agree do not, then 19 where two are too far apart.
+pub fn join_fault(m: Member, n: Member) -> Result<(), Fault>
+    ensures { fault_of result ≡ join_fault m n }
 {
-    ((wider(x) + wider(y) + 1) / 2) as u16
-}
-
-fn mean_down(x: u16, y: u16) -> u16
-    ensures { result ≡ (x + y) / 2 }
-{
-    ((wider(x) + wider(y)) / 2) as u16
-}
-
-// What two readings give: the mean, or the number that both have.
-fn joined_number(rule: Rule, x: u16, y: u16) -> u16
-    ensures { result ≡ joined_number rule x y }
-{
-    match rule {
-        Rule::MustAgree => x,
-        Rule::MeanUp(_) => mean_up(x, y),
-        Rule::MeanDown(_) => mean_down(x, y),
-        Rule::AnyMeanUp => mean_up(x, y),
+    if !(0..FIELDS).all(|f| field_agrees(m, n, f)) {
+        return Err(Fault::Disagreement);
     }
-}
-
-// 18 where fields that must agree do not, then 19 where two are too far apart; or 0.
-pub fn join_fault(m: Member, n: Member) -> u64
-    ensures { result ≡ join_fault m n }
-{
-    let kind = m.fields[KIND];
-    let code = m.fields[CODE];
-    let mut agreed = true;
-    let mut close = true;
-    let mut f: usize = 0;
-    while f < FIELDS {
-        let rule = rule_of(kind, code, f);
-        let x = m.fields[f];
-        let y = n.fields[f];
-        agreed = agreed & readings_agree(rule, x, y);
-        close = close & readings_near(rule, x, y);
-        f += 1;
+    if !(0..FIELDS).all(|f| field_near(m, n, f)) {
+        return Err(Fault::Apart);
     }
-    if !agreed {
-        return 18;
-    }
-    if !close {
-        return 19;
-    }
-    0
+    Ok(())
 }
 
 // The record that two readings of it give, field by field.
 pub fn joined_member(m: Member, n: Member) -> Member
     ensures { result ≡ joined_member m n }
 {
-    let kind = m.fields[KIND];
-    let code = m.fields[CODE];
     let mut fields = [0u16; FIELDS];
-    let mut f: usize = 0;
-    while f < FIELDS {
-        let rule = rule_of(kind, code, f);
-        let x = m.fields[f];
-        let y = n.fields[f];
-        fields[f] = joined_number(rule, x, y);
-        f += 1;
+    for f in 0..FIELDS {
+        fields[f] = rule_at(m, f).joined(m.fields[f], n.fields[f]);
     }
     Member { fields }
 }

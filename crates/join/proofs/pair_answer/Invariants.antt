@@ -1,14 +1,10 @@
 -- `pair_answer` meets its contract. The loop's invariant: none of the first i pairs of records has a fault.
 -- Assumes nothing.
-use Rattle.std.specs.Prelude.{Ok, Err}
-use Prim.Native.Nat.{◌-◌, ◌≤◌}
+use Rattle.std.specs.Prelude.{Ok}
 use mathlib.Core.Path.{◌≡◌}
 use Rattle.files.specs.Reading.{first_fault}
 use Rattle.join.specs.Join.{pair_faults}
 use Rattle.join.proofs.pair_answer.Given as goal
 
 abbrev pub invariant-loop-i : goal.invariant-loop-i
-invariant-loop-i l = (l.i ≤ l.count) × (l.answer ≡ (Ok tt)) × (first_fault 1 (pair_faults l.first l.second l.i) ≡ (Ok tt))
-
-abbrev pub decreases-loop-i : goal.decreases-loop-i
-decreases-loop-i l = l.count - l.i
+invariant-loop-i l = first_fault 1 (pair_faults l.first l.second l.i) ≡ Ok tt

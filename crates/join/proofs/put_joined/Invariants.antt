@@ -1,6 +1,6 @@
 -- `put_joined` meets its contract. The loop's invariant: behind the header the first i joined records are put.
 -- Assumes nothing.
-use Prim.Native.Nat.{◌-◌, ◌*◌, ◌≤◌}
+use Prim.Native.Nat.{◌*◌}
 use mathlib.Core.Path.{◌≡◌}
 use lib.Seq.{paste}
 use Rattle.surveys.specs.SurveyFile.{SURVEY_HEADER, RECORD}
@@ -9,7 +9,4 @@ use Rattle.join.proofs.Surveys.{records}
 use Rattle.join.proofs.put_joined.Given as goal
 
 abbrev pub invariant-loop-i : goal.invariant-loop-i
-invariant-loop-i l = (l.i ≤ l.count) × (l.out ≡ paste l.initial.out SURVEY_HEADER (records (joined_at l.first l.second) l.i) (RECORD * l.i))
-
-abbrev pub decreases-loop-i : goal.decreases-loop-i
-decreases-loop-i l = l.count - l.i
+invariant-loop-i l = l.out ≡ paste l.initial.out SURVEY_HEADER (records (joined_at l.first l.second) l.i) (RECORD * l.i)

@@ -1,53 +1,39 @@
--- `join_fault` meets its contract. The loop's invariant: `agreed` and `close` are the tests of the fields passed.
+-- `join_fault` meets its contract: each of the two tests asks for every field.
 -- Assumes nothing.
 use mathlib.Core.Path.{◌≡◌, refl, sym, ◌∙◌}
-use native.Mathlib.Numerals.{add-one}
-use native.Mathlib.Omega.{arith}
+use mathlib.Core.Bool.{true, false}
+use Rattle.std.proofs.Common.{rules}
+use Rattle.std.proofs.lemmas.Iterator.{cases_from_all, YieldsList-from_range}
 use Rattle.member.specs.Fields.{FIELDS}
+use Rattle.files.proofs.Tests.{all_indices}
+use Rattle.join.specs.Join.{field_agrees, field_near, agreed, close}
 use Rattle.join.proofs.Records.{must_agree_first, too_far_next, no_fault}
 use Rattle.join.proofs.record.join_fault.Goals as goal
-use Rattle.join.proofs.record.join_fault.Goals.{After-loop-f}
+use Rattle.join.proofs.record.join_fault.Goals.{After-all, After-all-2}
 
-pub loop-f-init : goal.loop-f-init
-loop-f-init c = (omega arith, refl, refl)
+agreed_is : (c : After-all) → c.all.result ≡ agreed c.args.m c.args.n
+agreed_is c =
+    let test = field_agrees c.args.m c.args.n in
+    all_indices test FIELDS c.all.result
+    (cases_from_all _ _ c.all.result (λ f. test f ≡ true) (λ f. test f ≡ false) c.all.ensures.ran (YieldsList-from_range 0 FIELDS FIELDS refl refl) (λ x q k. search rules)
+    (λ x q k. search rules))
 
-pub offset_bounds-m-f : goal.offset_bounds-m-f
-offset_bounds-m-f c = record { fits = omega arith }
+close_is : (c : After-all-2) → c.all-2.result ≡ close c.args.m c.args.n
+close_is c =
+    let test = field_near c.args.m c.args.n in
+    all_indices test FIELDS c.all-2.result
+    (cases_from_all _ _ c.all-2.result (λ f. test f ≡ true) (λ f. test f ≡ false) c.all-2.ensures.ran (YieldsList-from_range 0 FIELDS FIELDS refl refl) (λ x q k. search rules)
+    (λ x q k. search rules))
 
-pub offset_bounds-n-f : goal.offset_bounds-n-f
-offset_bounds-n-f c = record { fits = omega arith }
+pub returns-then-not-all : goal.returns-then-not-all
+returns-then-not-all c = sym (must_agree_first _ _ (sym (agreed_is (goal.at.returns-then-not-all c).After-all) ∙ c.if-not-all.true))
 
-pub overflow_add-f : goal.overflow_add-f
-overflow_add-f c = record { fits = omega arith }
-
-pub loop-f-preserved : goal.loop-f-preserved
-loop-f-preserved c =
-    let agree = c in
-    let rule = agree in
-    let inv = rule.loop-f.invariant in (
-      omega arith,
-      rw (add-one, ← inv.1, ← rule.rule_of-rule.ensures, ← agree.readings_agree-agreed.ensures),
-      rw (add-one, ← inv.2, ← rule.rule_of-rule.ensures, ← c.readings_near-close.ensures),
-    )
-
--- the tests of all fields
-ended : (c : After-loop-f) → c.loop-f.f ≡ FIELDS
-ended c = omega arith
-
-pub returns-then-not-agreed : goal.returns-then-not-agreed
-returns-then-not-agreed c =
-    let l = c in
-    let tested = rw (ended (goal.at.returns-then-not-agreed c).After-loop-f) at l.loop-f.invariant.1 in
-    sym (must_agree_first _ _ (sym tested ∙ c.if-not-agreed.true))
-
-pub returns-then-not-close : goal.returns-then-not-close
-returns-then-not-close c =
-    let l = c in
-    let tested = rw (ended (goal.at.returns-then-not-close c).After-loop-f) at l.loop-f.invariant in
-    sym (too_far_next _ _ (sym tested.1 ∙ c.if-not-agreed.false) (sym tested.2 ∙ c.if-not-close.true))
+pub returns-then-not-all-2 : goal.returns-then-not-all-2
+returns-then-not-all-2 c =
+    let at = goal.at.returns-then-not-all-2 c in
+    sym (too_far_next _ _ (sym (agreed_is at.After-all) ∙ c.if-not-all.false) (sym (close_is at.After-all-2) ∙ c.if-not-all-2.true))
 
 pub returns : goal.returns
 returns c =
-    let l = c in
-    let tested = rw (ended (goal.at.returns c).After-loop-f) at l.loop-f.invariant in
-    sym (no_fault _ _ (sym tested.1 ∙ c.if-not-agreed.false) (sym tested.2 ∙ c.if-not-close.false))
+    let at = goal.at.returns c in
+    sym (no_fault _ _ (sym (agreed_is at.After-all) ∙ c.if-not-all.false) (sym (close_is at.After-all-2) ∙ c.if-not-all-2.false))

@@ -1,6 +1,6 @@
 -- `joined_member` meets its contract. The loop's invariant: the row holds the first f joined numbers, and 0 after them.
 -- Assumes nothing.
-use Prim.Native.Nat.{◌-◌, ◌≤◌}
+use Prim.Native.Nat.{◌-◌}
 use mathlib.Core.Path.{◌≡◌}
 use mathlib.Core.List.{◌++◌}
 use lib.ListN.{replicate}
@@ -10,7 +10,4 @@ use Rattle.join.specs.Join.{joined_field}
 use Rattle.join.proofs.record.joined_member.Given as goal
 
 abbrev pub invariant-loop-f : goal.invariant-loop-f
-invariant-loop-f l = (l.f ≤ FIELDS) × (l.fields ≡ each (joined_field l.m l.n) l.f ++ replicate (FIELDS - l.f) 0)
-
-abbrev pub decreases-loop-f : goal.decreases-loop-f
-decreases-loop-f l = FIELDS - l.f
+invariant-loop-f l = l.fields ≡ each (joined_field l.m l.n) l.f ++ replicate (FIELDS - l.f) 0
