@@ -8,5 +8,4 @@ pub mod Material
 pub mod Sawn
 pub mod Sizes
 pub mod Species
-pub mod SpeciesCode
 pub mod Units

@@ -4,7 +4,7 @@ ghost use Rattle.section.specs.Fraction.{over, whole, tenths, ◌≐◌};
 ghost use Rattle.section.specs.Dowel.{least_term, dowel_capacity};
 ghost use Rattle.section.specs.Material.{material_term, material_of};
 
-use crate::fraction::{less, lesser};
+use crate::fraction::less;
 use crate::{CentiKgf, Cm, Mm};
 
 // A line of table 4: the coefficients of the terms pcδ, qaδ, rδ² + sa² and tδ².
@@ -62,7 +62,7 @@ fn least_term(k: Line, c: u64, a: u64, d: u64) -> CentiKgf
     let outer = 10 * k.q * (a * d);
     let bent = k.r * (d * d) + 100 * k.s * (a * a);
     let stiff = k.t * (d * d);
-    CentiKgf(lesser(middle, lesser(outer, lesser(bent, stiff))))
+    CentiKgf(middle.min(outer.min(bent.min(stiff))))
 }
 
 // A dowelled joint: the dowels' type (1 steel, 2 nail, 3 oak) and diameter, the thickness of the middle and of the outer pieces,

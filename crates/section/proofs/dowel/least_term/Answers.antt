@@ -11,7 +11,7 @@ pub returns-clause-is : goal.returns-clause-is
 returns-clause-is c =
     let a = c.args in
     let k = a.k in
-    let terms : c.lesser-3.result ≡
+    let terms : c.min-3.result ≡
     min (10 * k.p * (a.c * a.d))
     (min (10 * k.q * (a.a * a.d)) (min (k.r * (a.d * a.d) + 100 * k.s * (a.a * a.a)) (k.t * (a.d * a.d)))) = cc in
     rw terms (least_term_hundredths k.p k.q k.r k.s k.t a.c a.a a.d)
@@ -21,4 +21,4 @@ returns-clause-cap c =
     let a = c.args in
     let square : a.d * a.d ≤ 3600 = product_cap 60 60 (omega arith) (omega arith) in
     let stiff : a.k.t * (a.d * a.d) ≤ 1332000 = product_cap 370 3600 a.k.small.4 square in
-    omega (arith, c.lesser-3.ensures, c.lesser-2.ensures, c.lesser.ensures)
+    omega (arith, c.min-3.ensures, c.min-2.ensures, c.min.ensures)
