@@ -26,6 +26,7 @@ pub enum Wanted {
     Version2,
 }
 
+// Stays: two tables, since a discriminant can give one of the two versions and not the other too.
 fn wanted_version(wanted: Wanted) -> u16
     ensures { result ≡ wanted_version wanted }
 {

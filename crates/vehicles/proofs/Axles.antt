@@ -47,13 +47,18 @@ four_bytes_at bytes at =
     let three : at + 2 + 1 ≡ at + 3 = omega arith in
     rw (two, three) (omega arith)
 
+-- the axle of index i lies within the first n
+pub axle_within_lem : (version : ℕ) {i n : ℕ} → i < n → axle_size version * (i + 1) ≤ axle_size version * n
+axle_within_lem version h = mul-le-mul_left (axle_size version) (omega arith)
+
 -- where the axle of index i begins at `at`: its weight stands there, its distance behind it
 module _ (bytes : List ℕ) (i : ℕ) {version at : ℕ} (same : version ≡ version_of bytes) (begins : at ≡ VEHICLE_HEADER + axle_size version * i) where
-  pub axle_room : axle_at bytes (i + 1) ≤ length bytes → at + weight_bytes version + 2 ≤ length bytes
-  axle_room h =
+  -- the file has the bytes of its first n axles, this one among them
+  pub axle_room : {n : ℕ} → i < n → axle_at bytes n ≤ length bytes → at + weight_bytes version + 2 ≤ length bytes
+  axle_room below h =
       let v = version_of bytes in
       let next : axle_size v * (i + 1) ≡ axle_size v * i + axle_size v = omega arith in
-      rw (begins, same) (omega (arith, h, next))
+      rw (begins, same) (omega (arith, h, next, axle_within_lem v below))
 
   pub weight_of_four : {r : ℕ} → version ≡ 2 → r ≡ number_at 4 bytes at → r ≡ weight_at bytes i
   weight_of_four two e = rw (← same, ← begins) (e ∙ ap (λ (n : ℕ). number_at n bytes at) (sym (four_bytes version two)))
@@ -79,7 +84,3 @@ weights_from version = of_version (λ n r. r.low ≡ 1) version refl refl
 
 pub lighter : (version w : ℕ) → In (weights_in version) w → In weight_range w
 lighter version w = of_version (λ n r. In r w → In weight_range w) version (λ h. h) (λ h. (h.0, omega (arith, h.1)))
-
--- the axle of index i lies within the first n
-pub axle_within_lem : (version : ℕ) {i n : ℕ} → i < n → axle_size version * (i + 1) ≤ axle_size version * n
-axle_within_lem version h = mul-le-mul_left (axle_size version) (omega arith)

@@ -1,7 +1,7 @@
 -- Reading a vehicle file, with the tests in document 01's order. 'Files': "Vehicle: TBV, u16 version 1, u8 class, u16 track
 -- 100..300, u8 axles 1..16, then per axle u16 weight 1..60000 and u16 distance from the axle in front, 0 for the first,
 -- 1..2000 after." Document 02, request 9/13: "Vehicle version 2 stores a weight in four bytes, 1..200000. Both versions are read."
-use Rattle.std.specs.Prelude.{ℕ, ◌+◌, ◌-◌, ◌*◌, ◌≤◌, ◌<◌, ◌≡◌, List, [], ◌∷◌, ◌++◌, Bool, ◌&&◌, length, replicate, eqb, Ok, Err}
+use Rattle.std.specs.Prelude.{ℕ, ◌+◌, ◌-◌, ◌*◌, List, [], ◌∷◌, ◌++◌, Bool, ◌&&◌, replicate, eqb, Ok, Err}
 use Rattle.member.specs.declared.record.Vehicle.{Vehicle}
 use Rattle.member.specs.Fields.{MOST_AXLES}
 use Rattle.section.specs.Choose.{choose, all}
@@ -45,10 +45,6 @@ weight_at bytes i = number_at (weight_bytes (version_of bytes)) bytes (axle_at b
 
 abbrev pub distance_at : List ℕ → (i : ℕ) → ℕ
 distance_at bytes i = word_at bytes (axle_at bytes i + weight_bytes (version_of bytes))
-
--- what the axle's numbers are read by: the file's version, and that the axle lies within the file
-abbrev pub HasAxle : List ℕ → (version i : ℕ) → Type 0
-HasAxle bytes version i = (version ≡ version_of bytes) × (i < MOST_AXLES) × (axle_at bytes (i + 1) ≤ length bytes)
 
 -- the fields of an axle
 abbrev pub WEIGHT : ℕ

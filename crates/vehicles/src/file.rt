@@ -1,13 +1,12 @@
 // Reading a vehicle file: the header's tests with class and track, then the first fault in the order of axles.
 ghost use Rattle.std.specs.Prelude.{◌≡◌, ◌≤◌, ◌<◌, length};
-ghost use Rattle.files.specs.Header.{version_of};
 ghost use Rattle.files.specs.Fault.{fault_of};
 ghost use Rattle.files.specs.Reading.{first_fault, taken};
 ghost use Rattle.member.specs.Fields.{MOST_AXLES};
 ghost use Rattle.member.specs.Format.{◌‥◌};
-ghost use Rattle.vehicles.specs.VehicleFile.{axle_at, HasAxle, axles_of, field_within, axle_faults, vehicle_header, vehicle_of, blank_vehicle, read_vehicle_of, read_vehicle};
+ghost use Rattle.vehicles.specs.VehicleFile.{axles_of, field_within, axle_faults, vehicle_header, vehicle_of, blank_vehicle, read_vehicle_of, read_vehicle};
 
-use crate::axle::{AXLE_FIELDS, DISTANCE, HEADER, WEIGHT, axle_field, axle_limits, axle_size};
+use crate::axle::{AXLE_FIELDS, Axles, DISTANCE, HEADER, WEIGHT, axle_limits, axle_size};
 use files::Refusal;
 use files::fault::Fault;
 use files::header::header_fault;
@@ -44,23 +43,23 @@ fn vehicle_header(bytes: &[u8], versions: Limits) -> Result<(), Fault>
 }
 
 // The field is in its range.
-fn field_within(bytes: &[u8], version: u16, axle: usize, field: usize) -> bool
-    requires { HasAxle bytes.now version axle }
-    ensures { result ≡ field_within bytes.now axle field }
+fn field_within(axles: Axles<'_>, axle: usize, field: usize) -> bool
+    requires { axle < axles.count }
+    ensures { result ≡ field_within axles.entry.bytes.now axle field }
 {
-    axle_limits(version, axle, field).contains(axle_field(bytes, version, axle, field))
+    axle_limits(axles.version, axle, field).contains(axles.field(axle, field))
 }
 
 // The first fault in the order of axles, with its place.
-fn first_fault(bytes: &[u8], version: u16, axles: usize) -> Result<(), Refusal>
-    requires { (version ≡ version_of bytes.now) × (axles ≤ MOST_AXLES) × (axle_at bytes.now axles ≤ length bytes.now) }
-    ensures { result ≡ first_fault 1 (axle_faults bytes.now axles) }
+// Stays: an answer beside the loops, which are left by their label: document 01's named form of `first_fault`.
+fn first_fault(axles: Axles<'_>) -> Result<(), Refusal>
+    ensures { result ≡ first_fault 1 (axle_faults axles.entry.bytes.now axles.entry.count) }
 {
     let mut answer = Ok(());
-    'axles: for i in 0..axles {
+    'axles: for i in 0..axles.count {
         let place = i as u64 + 1;
         for f in 0..AXLE_FIELDS {
-            if !field_within(bytes, version, i, f) {
+            if !field_within(axles, i, f) {
                 answer = Err(Fault::Range.at(place));
                 break 'axles;
             }
@@ -70,20 +69,20 @@ fn first_fault(bytes: &[u8], version: u16, axles: usize) -> Result<(), Refusal>
 }
 
 // The file's numbers, each with its unit, and axles of 0 after them.
-fn vehicle_of(bytes: &[u8], version: u16, axles: usize) -> Vehicle
-    requires { (version ≡ version_of bytes.now) × (axles ≡ axles_of bytes.now) × (axles ≤ MOST_AXLES) × (axle_at bytes.now axles ≤ length bytes.now) }
-    ensures { result ≡ vehicle_of bytes.now }
+fn vehicle_of(axles: Axles<'_>) -> Vehicle
+    requires { axles.count ≡ axles_of axles.bytes.now }
+    ensures { result ≡ vehicle_of axles.entry.bytes.now }
 {
     let mut weights = [Kgf(0); MOST_AXLES];
     let mut distances = [Cm(0); MOST_AXLES];
-    for i in 0..axles {
-        weights[i] = Kgf(u64::from(axle_field(bytes, version, i, WEIGHT)));
-        distances[i] = Cm(u64::from(axle_field(bytes, version, i, DISTANCE)));
+    for i in 0..axles.count {
+        weights[i] = Kgf(u64::from(axles.field(i, WEIGHT)));
+        distances[i] = Cm(u64::from(axles.field(i, DISTANCE)));
     }
     Vehicle {
-        class: bytes[5],
-        track: Cm(u64::from(word_at(bytes, 6))),
-        axles,
+        class: axles.bytes[5],
+        track: Cm(u64::from(word_at(axles.bytes, 6))),
+        axles: axles.count,
         weights,
         distances,
     }
@@ -107,10 +106,13 @@ pub fn read_vehicle_of(bytes: &[u8], versions: Limits) -> Result<Vehicle, Refusa
     ensures { result ≡ taken (read_vehicle_of (versions.low ‥ versions.high) bytes.now).answer (read_vehicle_of (versions.low ‥ versions.high) bytes.now).vehicle }
 {
     vehicle_header(bytes, versions)?;
-    let version = word_at(bytes, 3);
-    let axles = usize::from(bytes[8]);
-    first_fault(bytes, version, axles)?;
-    Ok(vehicle_of(bytes, version, axles))
+    let axles = Axles {
+        bytes,
+        version: word_at(bytes, 3),
+        count: usize::from(bytes[8]),
+    };
+    first_fault(axles)?;
+    Ok(vehicle_of(axles))
 }
 
 // A vehicle file of any length, in either version.

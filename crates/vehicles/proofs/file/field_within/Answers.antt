@@ -6,4 +6,4 @@ pub returns : goal.returns
 unfolding field_within
 returns c =
     let l = c.axle_limits.ensures in
-    rw (l.0, l.1, c.axle_field.ensures, c.requires.0) at c.contains.ensures
+    rw (l.0, l.1, c.field.ensures, c.args.axles.own) at c.contains.ensures

@@ -10,7 +10,7 @@ use Rattle.vehicles.specs.VehicleFile.{field_within, axle_fault}
 use Rattle.vehicles.proofs.file.first_fault.Given as goal
 
 abbrev pub invariant-loop-f : goal.invariant-loop-f
-invariant-loop-f l = (l.answer ≡ Ok tt) × (all (field_within l.bytes l.i) l.f ≡ true)
+invariant-loop-f l = (l.answer ≡ Ok tt) × (all (field_within l.axles.bytes.now l.i) l.f ≡ true)
 
 abbrev pub invariant-axles : goal.invariant-axles
-invariant-axles l = (l.answer ≡ Ok tt) × (first_fault 1 (each (axle_fault l.bytes) l.i) ≡ Ok tt)
+invariant-axles l = (l.answer ≡ Ok tt) × (first_fault 1 (each (axle_fault l.axles.bytes.now) l.i) ≡ Ok tt)

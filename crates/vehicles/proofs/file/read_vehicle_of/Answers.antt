@@ -25,30 +25,25 @@ clear c = fault_clear c.in_ok-vehicle_header.was c.vehicle_header.ensures
 front : (c : In_ok-vehicle_header) → Fronted (c.args.versions.low ‥ c.args.versions.high) c.args.bytes.now
 front c = fronted _ c.args.bytes.now (clear c)
 
-pub word_at-version-requires : goal.word_at-version-requires
-word_at-version-requires c = omega (arith, (front (goal.at.word_at-version-requires c).In_ok-vehicle_header).head.long)
+pub word_at-requires : goal.word_at-requires
+word_at-requires c = omega (arith, (front (goal.at.word_at-requires c).In_ok-vehicle_header).head.long)
 
 pub bounds-bytes-8 : goal.bounds-bytes-8
 bounds-bytes-8 c = omega (arith, (front (goal.at.bounds-bytes-8 c).In_ok-vehicle_header).head.long)
 
-pub first_fault-requires : goal.first_fault-requires
-first_fault-requires c =
-    let h = (front (goal.at.first_fault-requires c).In_ok-vehicle_header).head in
-    let n = c.from-axles.ensures in
-    (c.word_at-version.ensures, omega (arith, h.count, n), rw n (omega (arith, h.sized)))
-
-pub vehicle_of-requires : goal.vehicle_of-requires
-vehicle_of-requires c =
-    let h = (front (goal.at.vehicle_of-requires c).In_ok-vehicle_header).head in
-    let n = c.from-axles.ensures in
-    (c.word_at-version.ensures, n, omega (arith, h.count, n), rw n (omega (arith, h.sized)))
+-- as many axles as the header says lie within the file
+pub invariant_of-axles : goal.invariant_of-axles
+invariant_of-axles c =
+    let h = (front (goal.at.invariant_of-axles c).In_ok-vehicle_header).head in
+    let n = c.from.ensures in
+    record { own = c.word_at.ensures; few = omega (arith, h.count, n); whole = rw n (omega (arith, h.sized)) }
 
 -- the axles' first fault is the answer
 answered : (c : After-first_fault) → c.first_fault.result ≡ vehicle_answer (c.args.versions.low ‥ c.args.versions.high) c.args.bytes.now
 unfolding vehicle_answer
 answered c =
     let b = c.args.bytes.now in
-    (rw c.from-axles.ensures at c.first_fault.ensures) ∙ sym (head_clear 0 _ (axle_faults b (axles_of b)) (fault_clear c.in_ok-vehicle_header.was c.vehicle_header.ensures))
+    (rw c.from.ensures at c.first_fault.ensures) ∙ sym (head_clear 0 _ (axle_faults b (axles_of b)) (fault_clear c.in_ok-vehicle_header.was c.vehicle_header.ensures))
 
 pub returns-in_err-first_fault : goal.returns-in_err-first_fault
 returns-in_err-first_fault c =

@@ -10,4 +10,4 @@ use Rattle.vehicles.specs.VehicleFile.{weight_at, distance_at}
 use Rattle.vehicles.proofs.file.vehicle_of.Given as goal
 
 abbrev pub invariant-loop-i : goal.invariant-loop-i
-invariant-loop-i l = (l.weights ≡ each (λ k. kgf (weight_at l.bytes k)) l.i ++ replicate (MOST_AXLES - l.i) (kgf 0)) × (l.distances ≡ each (λ k. centimetres (distance_at l.bytes k)) l.i ++ replicate (MOST_AXLES - l.i) (centimetres 0))
+invariant-loop-i l = (l.weights ≡ each (λ k. kgf (weight_at l.axles.bytes.now k)) l.i ++ replicate (MOST_AXLES - l.i) (kgf 0)) × (l.distances ≡ each (λ k. centimetres (distance_at l.axles.bytes.now k)) l.i ++ replicate (MOST_AXLES - l.i) (centimetres 0))
