@@ -2,5 +2,5 @@
 use Rattle.bridge.proofs.Beyond.{read_enough}
 use Rattle.bridge.proofs.input.load_read.Goals as goal
 
-pub returns-clause-is : goal.returns-clause-is
-returns-clause-is c = read_enough c.args.buffer.now c.args.n _ c.requires.0 c.load_input.ensures.is
+pub returns : goal.returns
+returns c = read_enough c.args.buffer.now c.args.n _ c.requires.0 c.load_input.ensures
