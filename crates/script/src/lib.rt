@@ -49,6 +49,7 @@ fn has_bytes(letter: u8) -> bool {
 }
 
 // A number and two files, of which the first one's length stands behind the number.
+#[derive(Drop)]
 struct Pair<'a> {
     number: usize,
     first: &'a [u8],

@@ -10,10 +10,10 @@ use Rattle.exports.proofs.yard.put_numbers.Goals.{At-loop-i}
 kept : (c : At-loop-i) → length c.loop-i.list ≡ length c.args.list.now
 kept c =
     let a = c.args in
-    rw c.loop-i.invariant.1 (rows_length a.answers a.list.now c.loop-i.i (omega arith) (omega arith))
+    rw c.loop-i.invariant (rows_length a.answers a.list.now c.loop-i.i (omega arith) (omega arith))
 
 pub loop-i-init : goal.loop-i-init
-loop-i-init c = (omega arith, refl)
+loop-i-init c = refl
 
 pub bounds-list-at : goal.bounds-list-at
 bounds-list-at c = omega (arith, kept (goal.at.bounds-list-at c).At-loop-i)
@@ -21,17 +21,13 @@ bounds-list-at c = omega (arith, kept (goal.at.bounds-list-at c).At-loop-i)
 pub bounds-list-at-in-loop-i : goal.bounds-list-at-in-loop-i
 bounds-list-at-in-loop-i c = simp length-set (omega (arith, kept (goal.at.bounds-list-at-in-loop-i c).At-loop-i))
 
-pub verdict_number-requires : goal.verdict_number-requires
-verdict_number-requires c = tt
-
 pub bounds-list-at-in-loop-i-2 : goal.bounds-list-at-in-loop-i-2
 bounds-list-at-in-loop-i-2 c = simp length-set (omega (arith, kept (goal.at.bounds-list-at-in-loop-i-2 c).At-loop-i))
 
 pub loop-i-preserved : goal.loop-i-preserved
 loop-i-preserved c =
-    let at = c in
-    let a = at.args in
-    (omega arith, turn a.answers a.list.now at.loop-i.i _ (omega arith) (omega arith) at.loop-i.invariant.1 c.verdict_number.ensures)
+    let a = c.args in
+    turn a.answers a.list.now c.loop-i.i _ (omega arith) (omega arith) c.loop-i.invariant c.verdict_number.ensures
 
 pub shape_of-list : goal.shape_of-list
 shape_of-list c = kept (goal.at.shape_of-list c).At-loop-i
@@ -39,4 +35,4 @@ shape_of-list c = kept (goal.at.shape_of-list c).At-loop-i
 pub returns : goal.returns
 returns c =
     let ended : c.loop-i.i ≡ c.args.count = omega arith in
-    rw ended at c.loop-i.invariant.1
+    rw ended at c.loop-i.invariant
