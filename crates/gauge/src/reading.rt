@@ -33,7 +33,7 @@ pub fn sixty_fourths(x: f32) -> Option<u64>
         return Some(0);
     }
     let exponent = bits / LEADING_ONE;
-    if !(LEAST_EXPONENT..=GREATEST_EXPONENT).contains(&exponent) {
+    if exponent < LEAST_EXPONENT || GREATEST_EXPONENT < exponent {
         return None;
     }
     let parts = scaled(LEADING_ONE + bits % LEADING_ONE, exponent);
