@@ -37,6 +37,7 @@ fn fifths(class: u8) -> u64
 }
 
 // Whether so many 64ths of a millimetre are at most the limit, by multiplying out.
+#[tactic(auto, using(crate::proofs::Limits::divisor_cap, crate::proofs::Limits::fifths_cap))]
 pub fn is_within(count: u64, m: Member, class: u8) -> bool
     requires { (count < 32768) × (field m SPAN ≤ 10000) }
     ensures { result ≡ at_most (over count 64) (limit m class) }

@@ -2,11 +2,11 @@
 -- Assumes nothing.
 use Prim.Native.Nat.{ℕ, ◌+◌, ◌*◌, ◌≤◌}
 use mathlib.Core.Path.{◌≡◌, refl, ap, ◌∙◌}
-use mathlib.Core.List.{List, [], ◌∷◌, ◌++◌}
+use mathlib.Core.List.{List, ◌++◌}
 use native.Mathlib.Numerals.{add-one}
 use native.Mathlib.Omega.{arith}
-use lib.ListN.{length, set, drop}
-use lib.Seq.{paste, sets-eq, take_all}
+use lib.ListN.{length, drop}
+use lib.Seq.{paste, take_all}
 use Rattle.member.specs.Fields.{FIELDS, field}
 use Rattle.member.specs.declared.record.Member.{Member}
 use Rattle.surveys.specs.SurveyFile.{SURVEY_HEADER, RECORD}
@@ -14,16 +14,6 @@ use Rattle.files.specs.Words.{bytes_of, in_row}
 use Rattle.files.specs.Writing.{onto}
 use Rattle.files.proofs.Writing.{paste_behind, length_row}
 use Rattle.join.specs.SurveyBytes.{head_bytes, record_bytes, survey_bytes}
-
--- the header, number by number
-pub head_put : (out : List ℕ) (count : ℕ) → SURVEY_HEADER ≤ length out →
-    paste (paste (set (set (set out 0 84) 1 66) 2 82) 3 (bytes_of 2 1) 2) 5 (bytes_of 1 count) 1 ≡ paste out 0 (head_bytes count) SURVEY_HEADER
-head_put out count long =
-    let mark : List ℕ = 84 ∷ 66 ∷ 82 ∷ [] in
-    let marked : set (set (set out 0 84) 1 66) 2 82 ≡ paste out 0 mark 3 = sets-eq mark out 0 (omega (arith, long)) in
-    let versioned = paste_behind out 0 mark (bytes_of 2 1) 3 2 (omega arith) refl refl in
-    let counted = paste_behind out 0 (mark ++ bytes_of 2 1) (bytes_of 1 count) 5 1 (omega arith) refl refl in
-    ap (λ (l : List ℕ). paste (paste l 3 (bytes_of 2 1) 2) 5 (bytes_of 1 count) 1) marked ∙ ap (λ (l : List ℕ). paste l 5 (bytes_of 1 count) 1) versioned ∙ counted
 
 -- the first f numbers of a record
 abbrev pub numbers : Member → (f : ℕ) → List ℕ
