@@ -5,8 +5,7 @@ ghost use Rattle.spread.specs.Spread.{three_stringers, five_stringers, seven_str
 ghost use Rattle.spread.specs.Stiffness.{ten_thousandths};
 ghost use Rattle.spread.specs.Scaled.{part, SharesOf, Bounded};
 
-// Stays: that they are `Bounded` is a clause of each function. docs/ARCHITECTURE.md names `Bounded.room`, and `Bounded` names `Shares`, so no ghost
-// field of `Shares` can cite it.
+// Stays: `Bounded` is a clause of each function, since it names `Shares` and docs/ARCHITECTURE.md names it: no ghost field can cite it.
 // Of the loaded stringer and of those one, two and three spacings from it.
 #[derive(Clone, Copy)]
 pub struct Shares {
