@@ -16,9 +16,7 @@ fn head_bytes(v: Vehicle, version: u16) -> [u8; LONGEST_FILE]
     ensures { take VEHICLE_HEADER result ≡ head_bytes version v }
 {
     let mut row = [0; LONGEST_FILE];
-    row[0] = b'T';
-    row[1] = b'B';
-    row[2] = b'V';
+    row[..3].copy_from_slice(b"TBV");
     put_number(&mut row, 3, 2, u64::from(version));
     put_number(&mut row, 5, 1, u64::from(v.class));
     put_number(&mut row, 6, 2, v.track.0);

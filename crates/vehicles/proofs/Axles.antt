@@ -10,7 +10,7 @@ use borrow.Author.Tests.{eq-eqb, ne_eqb}
 use Rattle.section.specs.Choose.{choose}
 use Rattle.member.specs.Format.{Range, ◌‥◌, In, weight_range}
 use lib.ListN.{length}
-use Rattle.files.specs.Words.{byte_at, word_at, number_at}
+use Rattle.files.specs.Words.{word_at, number_at}
 use Rattle.files.specs.Header.{version_of}
 use Rattle.files.proofs.Numbers.{two_bytes_at}
 use Rattle.vehicles.specs.VehicleFile.{VEHICLE_HEADER, LONGEST_AXLE, weight_bytes, axle_size, axle_at, weight_at, distance_at, WEIGHT, DISTANCE, axle_field, weights_in}
@@ -38,14 +38,6 @@ some_bytes version = of_version (λ n r. (2 ≤ n) × (n ≤ 4)) version (omega 
 
 pub longest_axle : (version : ℕ) → axle_size version ≤ LONGEST_AXLE
 longest_axle version = omega (arith, some_bytes version)
-
--- a number of four bytes and of two, the low byte first
-pub four_bytes_at : (bytes : List ℕ) (at : ℕ) →
-    byte_at bytes at + 256 * byte_at bytes (at + 1) + 65536 * byte_at bytes (at + 2) + 16777216 * byte_at bytes (at + 3) ≡ number_at 4 bytes at
-four_bytes_at bytes at =
-    let two : at + 1 + 1 ≡ at + 2 = omega arith in
-    let three : at + 2 + 1 ≡ at + 3 = omega arith in
-    rw (two, three) (omega arith)
 
 -- the axle of index i lies within the first n
 pub axle_within_lem : (version : ℕ) {i n : ℕ} → i < n → axle_size version * (i + 1) ≤ axle_size version * n
