@@ -26,17 +26,14 @@ stiffness_number-requires c =
       c.deck_inertia.ensures.cap,
     )
 
-pub returns : goal.returns
+pub returns-clause-is : goal.returns-clause-is
 unfolding stiffness_of board_inertia whole
-returns c =
+returns-clause-is c =
     let m = c.args.m in
-    let p = c.requires in
-    let s = c.deck.ensures in record {
-      is = rw (c.stiffness_number.ensures.is, c.spacing.ensures, c.span.ensures)
-          (stiffness_number_same (whole (field m SPAN)) (whole_sound _) (omega (arith, (close p.0 p.1).span_low)) (over_sound _ 12 (omega arith)) (inertia_sound m)
-          (over_sound _ 12 (omega arith))
-          (board_sound m)
-          c.inertia.ensures.is
-          (rw (s.0, s.1, s.2, s.3) at c.deck_inertia.ensures.is));
-      cap = c.stiffness_number.ensures.cap;
-    }
+    let s = c.deck.ensures in
+    rw (c.stiffness_number.ensures.is, c.spacing.ensures, c.span.ensures)
+    (stiffness_number_same (whole (field m SPAN)) (whole_sound _) (omega (arith, (close c.requires.0 c.requires.1).span_low)) (over_sound _ 12 (omega arith)) (inertia_sound m)
+    (over_sound _ 12 (omega arith))
+    (board_sound m)
+    c.inertia.ensures.is
+    (rw (s.0, s.1, s.2, s.3) at c.deck_inertia.ensures.is))

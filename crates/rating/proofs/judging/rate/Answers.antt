@@ -8,7 +8,6 @@ use Rattle.rating.proofs.judging.rate.Goals as goal
 
 pub returns : goal.returns
 returns c =
-    let start = c in
-    rating_is start.args.m start.args.v c.permitted_load-permitted.ensures.is c.vehicle_load_on-load.ensures.is
+    rating_is c.args.m c.args.v c.permitted_load-permitted.ensures.is c.vehicle_load_on-load.ensures.is
     c.verdict_of.ensures
     (to_z-of_z {w = w64} (record { sfits = c.margin_of.type_inv }) ∙ c.margin_of.ensures)
