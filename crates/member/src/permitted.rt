@@ -22,6 +22,7 @@ use spread::inertia::{deck_inertia, sawn_inertia, tiered_inertia};
 use spread::stiffness::stiffness_number;
 
 // The load factor n, in tenths.
+// Stays: the class is a plain number, as `permitted_load` promises its answer of every u8 and `Vehicle` holds one.
 fn load_factor(class: u8) -> u64
     ensures is { result ≡ load_factor_tenths class }
     ensures range { (11 ≤ result) × (result ≤ 14) }

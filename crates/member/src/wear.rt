@@ -1,4 +1,5 @@
 // What wears in a section, by its code.
+// Stays: the code is a plain number, since `is_rot` and `is_loss` promise their answer of every u16.
 ghost use Rattle.std.specs.Prelude.{◌≡◌};
 ghost use Rattle.member.specs.Format.{holds};
 ghost use Rattle.member.specs.Wear.{rot_fields, lost_fields};
