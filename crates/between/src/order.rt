@@ -9,6 +9,8 @@ use files::fault::Fault;
 use member::record::{CLOSE_STRINGER, CODE, DEAD_LOAD, FIELDS, KIND, Member, Survey};
 use member::wear::{is_loss, is_rot};
 
+// Stays: kind and code are numbers here and not enums, since `order_answer` takes surveys with any numbers, and `may_grow` answers for each.
+
 // The number in the field may be greater in the second survey. Of closely spaced stringers only the dead load may: their rot changes the
 // spread.
 #[tactic(auto, using(crate::proofs::Orders::dead_grows, crate::proofs::Orders::kept_grows, crate::proofs::Orders::worn_grows))]

@@ -5,8 +5,6 @@ use mathlib.Core.Path.{◌≡◌, sym, ◌∙◌}
 use mathlib.Core.Bool.{true}
 use native.Mathlib.Omega.{arith}
 use Rattle.section.specs.Fraction.{at_most}
-use Rattle.member.specs.Fields.{SPAN}
-use Rattle.member.proofs.Ranges.{number_cap}
 use Rattle.gauge.specs.Whole.{count_of, counted_of}
 use Rattle.gauge.specs.Fault.{MayBeGauged}
 use Rattle.gauge.specs.Gauge.{deflection, deflection_of}
@@ -42,7 +40,7 @@ unwrap-count-requires c = rw (c.sixty_fourths.ensures, counted c.args.readings c
 pub is_within-requires : goal.is_within-requires
 is_within-requires c =
     let p = c.requires in
-    (rw (count (goal.at.is_within-requires c).After-unwrap-count) (reading_counted _ (elastic c.args.readings p.1)).few, number_cap p.0 SPAN (omega arith))
+    (rw (count (goal.at.is_within-requires c).After-unwrap-count) (reading_counted _ (elastic c.args.readings p.1)).few, p.0)
 
 pub returns-then-is_within : goal.returns-then-is_within
 unfolding deflection_of
