@@ -2,14 +2,13 @@
 -- is counted and written, and where it found a refusal that is no vehicle and no number.
 use Rattle.std.specs.Prelude.{Ok, Err, ⊤}
 use Prim.Native.Nat.{ℕ, ◌*◌}
-use mathlib.Core.Path.{◌≡◌, refl, ap}
+use mathlib.Core.Path.{◌≡◌}
 use mathlib.Core.List.{List, [], ◌∷◌, ◌++◌}
 use lib.ListN.{take, drop}
-use Rattle.vehicles.specs.YardFile.{vehicles_of}
 use Rattle.files.specs.declared.Refusal.{Refusal}
 use Rattle.session.specs.Answers.{Values, loaded, refused_by}
-use Rattle.session.specs.Calls.{new_session, load_survey, unless_refused}
-use Rattle.session.specs.Yard.{Entry, entries, vehicle_answers, answered_yard}
+use Rattle.session.specs.Calls.{new_session, load_survey}
+use Rattle.session.specs.Yard.{entries, answered_yard}
 use Rattle.session.specs.YardRun.{Found}
 use Rattle.session.specs.declared.After.{After}
 use Rattle.session.specs.declared.yard.YardAnswers.{YardAnswers}

@@ -84,13 +84,7 @@ fn judge_yard(out: &mut Out, session: Session, bytes: &[u8]) -> Option<Session> 
 
 fn judge_between(out: &mut Out, session: Session, bytes: &[u8]) -> Option<Session> {
     let pair = pair_of(bytes)?;
-    Some(calls::judge_between(
-        out,
-        session,
-        pair.first,
-        pair.second,
-        pair.number,
-    ))
+    Some(calls::judge_between(out, session, pair.first, pair.second, pair.number))
 }
 
 fn join(out: &mut Out, session: Session, bytes: &[u8]) -> Option<Session> {
@@ -180,7 +174,11 @@ pub fn run(out: &mut Out, script: &[u8]) {
         let number = number_at(rest, 1);
         let behind = &rest[HEAD..];
         // A cut script ends a step's bytes.
-        let length = if has_bytes(letter) { number.min(behind.len()) } else { 0 };
+        let length = if has_bytes(letter) {
+            number.min(behind.len())
+        } else {
+            0
+        };
         session = run_step(out, session, letter, number, &behind[..length]);
         rest = &behind[length..];
     }

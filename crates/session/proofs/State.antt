@@ -11,7 +11,7 @@ use Rattle.member.specs.Fields.{MOST_MEMBERS}
 use lib.Dec.{eqb, leb}
 use lib.Seq.{get_or-take}
 use borrow.Author.Tests.{eq-eqb, ne_eqb, le-leb, leb-true}
-use Rattle.member.specs.Format.{AllowedMember, AllowedVehicle, In, ◌‥◌}
+use Rattle.member.specs.Format.{AllowedVehicle, In, ◌‥◌}
 use Rattle.member.specs.declared.record.Member.{Member}
 use Rattle.member.specs.declared.record.Vehicle.{Vehicle}
 use Rattle.rating.specs.Judgement.{judgement_of}

@@ -2,10 +2,9 @@
 -- follow from the two.
 -- Assumes nothing.
 use Prim.Native.Nat.{ℕ, zero, suc}
-use mathlib.Core.Path.{◌≡◌, refl, sym, ap, ◌∙◌}
+use mathlib.Core.Path.{◌≡◌, refl, ◌∙◌}
 use mathlib.Core.List.{List, [], ◌∷◌, ◌++◌, map, map-append}
 use lib.ListN.{length, take, drop, length-map}
-use Rattle.vehicles.specs.YardFile.{vehicles_of}
 use Rattle.rating.specs.declared.judging.Judgement.{Judgement}
 use Rattle.files.specs.declared.Refusal.{Refusal}
 use Rattle.session.specs.Answers.{Values, refused_by, judgement_answer}

@@ -1,6 +1,6 @@
 -- The four calls. Document 01, 'Calls': "Load a survey, load a vehicle, rate one place, judge." `Yard`, `Readings`, `Gauging`
 -- and `Coupling` have four more.
-use Rattle.std.specs.Prelude.{ℕ, ◌-◌, ◌*◌, ◌<◌, not, List, [], ◌∷◌, eqb, leb, length, replicate, Ok, Err}
+use Rattle.std.specs.Prelude.{ℕ, ◌-◌, ◌*◌, not, List, [], ◌∷◌, eqb, leb, length, replicate, Ok, Err}
 use Rattle.section.specs.Choose.{choose}
 use Rattle.member.specs.Fields.{MOST_MEMBERS}
 use Rattle.member.specs.Format.{◌‥◌}

@@ -1,5 +1,5 @@
 -- What is loaded: a survey with count 0, or a vehicle with no axles, is not loaded.
-use Rattle.std.specs.Prelude.{ℕ, ◌<◌}
+use Rattle.std.specs.Prelude.{◌<◌}
 use Rattle.member.specs.Format.{AllowedVehicle}
 use Rattle.member.specs.declared.record.Survey.{Survey}
 use Rattle.member.specs.declared.record.Vehicle.{Vehicle}

@@ -1,12 +1,11 @@
 -- `judge_loaded` meets its contract: a fault answers itself and writes nothing; else the survey and the vehicle are allowed and the list is long enough.
-use Prim.Native.Nat.{◌*◌, ◌≤◌}
-use mathlib.Core.Path.{◌≡◌, sym, ◌∙◌}
+use mathlib.Core.Path.{◌≡◌}
 use lib.ListN.{length}
 use borrow.Author.Tests.{eq-eqb, ne_eqb}
 use Rattle.std.proofs.lemmas.Result.{err_from_is_err_and}
 use Rattle.files.proofs.Faults.{some_fault, fault_clear, fault_found}
 use Rattle.session.specs.Calls.{judge, judge_list, judge_fault}
-use Rattle.session.proofs.State.{Ready, judge_clear, few_members}
+use Rattle.session.proofs.State.{judge_clear, few_members}
 use Rattle.session.proofs.judge_loaded.Goals as goal
 use Rattle.session.proofs.judge_loaded.Goals.{In_ok-judge_fault}
 

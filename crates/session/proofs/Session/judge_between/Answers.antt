@@ -1,6 +1,4 @@
 -- `Session::judge_between` meets its contract: the answer is that for the loaded vehicle.
-use mathlib.Core.Path.{ap}
-use Rattle.session.specs.Loaded.{Session}
 use Rattle.session.specs.Readings.{judge_between, bounds_list}
 use Rattle.session.proofs.Session.judge_between.Goals as goal
 

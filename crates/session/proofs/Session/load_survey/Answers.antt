@@ -1,6 +1,5 @@
 -- `Session::load_survey` meets its contract: what was read decides, and only a file that was taken is stored.
-use mathlib.Core.Path.{◌≡◌, sym, ◌∙◌}
-use Rattle.std.specs.Prelude.{Ok, Err}
+use mathlib.Core.Path.{sym, ◌∙◌}
 use Rattle.files.proofs.Faults.{taken_ok, taken_err}
 use Rattle.session.proofs.State.{survey_stored, survey_kept, valid_survey}
 use Rattle.session.proofs.Session.load_survey.Goals as goal

@@ -1,6 +1,4 @@
 -- `Session::rate` meets its contract: the session is handed back as it came.
-use mathlib.Core.Path.{ap}
-use Rattle.session.specs.Answers.{Answer, Outcome}
 use Rattle.session.specs.Calls.{rate}
 use Rattle.session.proofs.Session.rate.Goals as goal
 

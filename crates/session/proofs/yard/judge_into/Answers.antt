@@ -1,5 +1,4 @@
 -- `judge_into` meets its contract: what was found and what the list then holds give the two clauses.
-use mathlib.Core.Path.{◌≡◌, sym, ◌∙◌}
 use Rattle.std.proofs.lemmas.Result.{err_from_is_err_and}
 use Rattle.session.proofs.YardWritten.{yard_written, yard_refused}
 use Rattle.session.proofs.yard.judge_into.Goals as goal

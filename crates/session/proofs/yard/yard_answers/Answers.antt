@@ -7,7 +7,6 @@ use Rattle.files.specs.Fault.{fault_of}
 use Rattle.files.specs.Reading.{first_of}
 use Rattle.vehicles.specs.YardFile.{vehicles_of, left_over}
 use Rattle.files.proofs.Faults.{some_fault, fault_clear, fault_found}
-use Rattle.session.specs.Loaded.{Session}
 use Rattle.session.specs.Yard.{front_tests, end_tests}
 use Rattle.session.specs.YardRun.{Going}
 use Rattle.session.proofs.YardTests.{front_refused, vehicle_refused, end_refused, end_is, found_answers}
