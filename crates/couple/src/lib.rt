@@ -20,10 +20,8 @@ const MOST_GAP: u64 = 2000;
 fn may_follow(first: Vehicle, second: Vehicle, gap: Cm) -> bool
     ensures { result ≡ may_follow first second gap.0 }
 {
-    let class = first.class == second.class;
-    let track = first.track.0 == second.track.0;
-    let stated = (1 <= gap.0) & (gap.0 <= MOST_GAP);
-    class & track & stated
+    let alike = first.class == second.class && first.track == second.track;
+    alike && (1..=MOST_GAP).contains(&gap.0)
 }
 
 // How far the second's axle of this index stands behind the axle in front. In its own file the first has none in front, so it stands the gap behind.

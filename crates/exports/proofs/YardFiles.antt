@@ -1,10 +1,12 @@
 -- The numbers of a yard by the answer of the survey's load: a refusal ends the calls with the list as it was. Else what `yard_answers` found
 -- is counted and written, and where it found a refusal that is no vehicle and no number.
 use Rattle.std.specs.Prelude.{Ok, Err, ⊤}
-use Prim.Native.Nat.{ℕ, ◌*◌}
+use Prim.Native.Nat.{ℕ, ◌*◌, ◌≤◌}
 use mathlib.Core.Path.{◌≡◌}
 use mathlib.Core.List.{List, [], ◌∷◌, ◌++◌}
-use lib.ListN.{take, drop}
+use native.Mathlib.Omega.{arith}
+use lib.ListN.{length, take, drop}
+use lib.Seq.{length-take-le}
 use Rattle.files.specs.declared.Refusal.{Refusal}
 use Rattle.session.specs.Answers.{Values, loaded, refused_by}
 use Rattle.session.specs.Calls.{new_session, load_survey}
@@ -26,11 +28,13 @@ module _ (survey yard list : List ℕ) (o : After ⊤) (load : loaded o ≡ load
     outcome = rw (← load, taken)
 
     pub filled : (y : YardAnswers) (r : YardNumbers) (after : List ℕ) → Found o.session yard (room_of list) y →
-        after ≡ numbers_in (entries (take y.count y.answers)) ++ drop (3 * y.count) list →
+        after ≡ numbers_in (entries (take y.count y.answers)) ++ drop (3 * length (take y.count y.answers)) list →
         r ≡ yard_numbers_of (Values (y.passes ∷ [])) y.count →
         (r ≡ yard_numbers survey yard list) × (after ≡ yard_number_list survey yard list)
     unfolding yard_numbers yard_number_list
-    filled y r after h w is = (rw (is, outcome, h.is, h.count), rw (w, outcome, h.is, h.entries, h.count))
+    filled y r after h w is =
+        let few : y.count ≤ length y.answers = omega (arith, h.sized, h.most) in
+        (rw (is, outcome, h.is, h.count), rw (w, length-take-le y.count y.answers few, outcome, h.is, h.entries, h.count))
 
     pub yard_refused : (f : Refusal) (r : YardNumbers) → answered_yard o.session yard (room_of list) ≡ refused_by f → r ≡ yard_numbers_of (refused_by f) 0 →
         (r ≡ yard_numbers survey yard list) × (list ≡ yard_number_list survey yard list)

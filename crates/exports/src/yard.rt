@@ -41,13 +41,12 @@ fn numbers_of(answer: Result<u64, Refusal>, count: u64) -> YardNumbers
     }
 }
 
-// Writes the first `count` answers into the list, three numbers each, without the margin; entries beyond are kept.
-fn put_numbers(list: &mut [u64], answers: [Judgement; MOST_VEHICLES], count: usize)
-    requires { (count ≤ MOST_VEHICLES) × (length answers ≡ MOST_VEHICLES) × (3 * count ≤ length list.old) }
-    ensures { list.new ≡ numbers_in (entries (take count answers)) ++ drop (3 * count) list.old }
+// Writes the answers into the list, three numbers each, without the margin; entries beyond are kept.
+fn put_numbers(list: &mut [u64], answers: &[Judgement])
+    requires { (length answers.now ≤ MOST_VEHICLES) × (3 * length answers.now ≤ length list.old) }
+    ensures { list.new ≡ numbers_in (entries answers.now) ++ drop (3 * length answers.now) list.old }
 {
-    for i in 0..count {
-        let j = answers[i];
+    for (i, j) in answers.iter().enumerate() {
         let at = 3 * i;
         list[at] = j.figure.0;
         list[at + 1] = j.governing;
@@ -68,7 +67,7 @@ pub extern "C" fn tbr_yard(survey: &[u8], yard: &[u8], list: &mut [u64]) -> Yard
     }
     match yard_answers(&loaded.session, yard, list.len() / 3) {
         Ok(found) => {
-            put_numbers(list, found.answers, found.count);
+            put_numbers(list, &found.answers[..found.count]);
             numbers_of(Ok(found.passes), found.count as u64)
         }
         Err(refusal) => numbers_of(Err(refusal), 0),

@@ -11,6 +11,7 @@ pub fn read_full(input: &mut Stdin, buffer: &mut [u8]) -> io::Result<usize>
     ensures { IfOk result (λ n. n ≤ length buffer.new) }
 {
     let mut n = 0;
+    // Stays: no `for`, since a read tells only afterwards how many bytes it gave.
     while n < buffer.len() {
         let more = input.read(&mut buffer[n..])?;
         if more == 0 {

@@ -2,15 +2,13 @@
 #![tactic(auto)]
 
 ghost use Rattle.std.specs.Prelude.{◌≡◌, ◌++◌, ◌≤◌, length, take, drop};
-ghost use Rattle.vehicles.specs.YardFile.{MOST_VEHICLES};
 
 use rating::judging::Judgement;
-use vehicles::yard::MOST_VEHICLES;
 
-// Writes the first `count` answers into the list; entries beyond are kept.
-pub fn put_all(list: &mut [Judgement], answers: [Judgement; MOST_VEHICLES], count: usize)
-    requires { (count ≤ MOST_VEHICLES) × (count ≤ length list.old) }
-    ensures { list.new ≡ take count answers ++ drop count list.old }
+// Writes the answers into the list; entries beyond are kept.
+pub fn put_all(list: &mut [Judgement], answers: &[Judgement])
+    requires { length answers.now ≤ length list.old }
+    ensures { list.new ≡ answers.now ++ drop (length answers.now) list.old }
 {
-    list[..count].copy_from_slice(&answers[..count]);
+    list[..answers.len()].copy_from_slice(answers);
 }

@@ -56,6 +56,8 @@ pub const MOST_MEMBERS: usize = 255;
 
 pub const MOST_AXLES: usize = 16;
 
+// Stays: no invariant, since `code_fault`, `order_answer`, `rule_of` and `read_survey` answer for records with any numbers; what a rating needs of
+// one, `AllowedMember`, stands in the contracts.
 // The sixteen numbers of a member's record.
 #[derive(Clone, Copy)]
 pub struct Member {

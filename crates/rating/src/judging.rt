@@ -66,7 +66,7 @@ pub struct Judgement {
 fn verdict_of(load: KgfPerM, permitted: KgfPerM) -> Verdict
     ensures { result ≡ verdict_of (leb load.0 permitted.0) }
 {
-    if load.0 <= permitted.0 {
+    if load <= permitted {
         Verdict::Pass
     } else {
         Verdict::Refuse
@@ -102,7 +102,7 @@ fn with_member(j: Judgement, r: Rating, place: u64) -> Judgement
     ensures { result ≡ with_member j r place }
 {
     let first = place == 1;
-    let lower = first || r.permitted.0 < j.figure.0;
+    let lower = first || r.permitted < j.figure;
     let governs = first || r.margin < j.margin;
     Judgement {
         figure: if lower { r.permitted } else { j.figure },

@@ -169,6 +169,7 @@ fn run_step(out: &mut Out, session: Session, letter: u8, number: usize, bytes: &
 pub fn run(out: &mut Out, script: &[u8]) {
     let mut session = Session::new();
     let mut rest = script;
+    // Stays: no `for`, since a step tells how many bytes it has.
     while HEAD <= rest.len() {
         let letter = rest[0];
         let number = number_at(rest, 1);

@@ -32,6 +32,7 @@ use surveys::file::read_survey;
 use vehicles::file::{blank_vehicle, read_vehicle};
 
 // A survey with count 0, or a vehicle with no axles, is not loaded.
+// Stays: no Option of either, since `new_session` and `state_fault`, under the theorems of demands, say by the counts what is loaded.
 #[derive(Clone, Copy)]
 pub struct Session {
     survey: Survey,
@@ -200,9 +201,9 @@ pub fn load_files(survey: &[u8], vehicle: &[u8]) -> After<()>
     ensures { loaded result ≡ load_files survey.now vehicle.now }
 {
     match read_survey(survey) {
-        Ok(survey) => {
+        Ok(taken) => {
             let session = Session {
-                survey,
+                survey: taken,
                 vehicle: blank_vehicle(),
             };
             session.load_vehicle(vehicle)
@@ -215,6 +216,7 @@ pub fn load_files(survey: &[u8], vehicle: &[u8]) -> After<()>
 }
 
 // 1 for pass, 0 for refuse.
+// Stays: a function and no `From`, since these are the numbers of the C interface, and `Verdict` is of another crate.
 pub fn verdict_number(v: Verdict) -> u64
     ensures { result ≡ verdict_number v }
 {

@@ -17,6 +17,7 @@ use section::KgfPerM;
 use vehicles::yard::{MOST_VEHICLES, vehicle_length};
 
 // The answers of a yard in which none is refused: how many vehicles pass, and the first `count` answers.
+// Stays: an array and a count, here and in `Run`, as fixed memory without a heap needs.
 #[derive(Clone, Copy)]
 pub struct YardAnswers {
     pub passes: u64,
@@ -137,7 +138,7 @@ fn judge_into(session: &Session, yard: &[u8], list: &mut [Judgement]) -> Result<
     ensures list { entries list.new ≡ yard_list session.now yard.now (entries list.old) }
 {
     let found = yard_answers(session, yard, list.len())?;
-    put_all(list, found.answers, found.count);
+    put_all(list, &found.answers[..found.count]);
     Ok(found.passes)
 }
 

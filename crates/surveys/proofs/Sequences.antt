@@ -1,9 +1,12 @@
 -- The order of a survey's records: the test decides it, and it is enough to test each record against its predecessor, since of records m, n
 -- and k m stands before k only where m stands before n or n before k.
 -- Assumes nothing.
-use Rattle.std.specs.Prelude.{Ok, Err}
+use Rattle.std.specs.Prelude.{Ok, Err, Option, Some, cond}
+use Rattle.std.proofs.Common.{Ordering}
+use Rattle.std.specs.Ordering.{nat_cmp, partial_ordering_then, is_lt, is_some_and}
+use Rattle.std.specs.declared.cmp.Ordering.TheVariants.{Less, Equal, Greater}
 use Prim.Native.Nat.{ℕ, zero, suc, ◌+◌, ◌-◌, ◌*◌, ◌≤◌, ◌<◌}
-use mathlib.Core.Path.{◌≡◌, refl, sym, ◌∙◌}
+use mathlib.Core.Path.{◌≡◌, refl, sym, ap, ◌∙◌}
 use mathlib.Core.Bool.{Bool, true, false, not, false≢true}
 use mathlib.Core.List.{List, [], ◌∷◌}
 use mathlib.Core.Logic.{◌⊎◌, inl, inr, ⊎_elim}
@@ -12,7 +15,7 @@ use native.Mathlib.Omega.{arith}
 use lib.Dec.{eqb, ltb}
 use borrow.Author.Tests.{eqb-true, eq-eqb, ne_eqb, leb-true, le-leb, lt-leb}
 use Rattle.section.specs.Choose.{choose}
-use Rattle.member.specs.Fields.{FIELDS, field}
+use Rattle.member.specs.Fields.{KIND, SPAN, SPACING, FIELDS, field}
 use Rattle.member.specs.declared.record.Member.{Member}
 use Rattle.surveys.specs.Sequence.{sequence_fields, before, Before, before_predecessor, BeforePredecessor, InSequence}
 use Rattle.files.specs.Reading.{◌unless◌, first_fault}
@@ -28,23 +31,25 @@ use Rattle.files.proofs.Tests.{both, refutes}
 pub record_field : (bytes : List ℕ) (i f : ℕ) → f < FIELDS → field (record_at bytes i) f ≡ word_at bytes (SURVEY_HEADER + RECORD * i + 2 * f)
 record_field bytes i f h = getD_each (λ k. word_at bytes (SURVEY_HEADER + RECORD * i + 2 * k)) FIELDS f 0 h
 
--- the test, field by field: the first in which the records differ decides, and the last in any case
-module _ (f : ℕ) (m m' : Member) {a b : ℕ} (is : a ≡ field m f) (ahead : b ≡ field m' f) where
-  pub decides : (fs : List ℕ) → ¬ (a ≡ b) → ltb a b ≡ before (f ∷ fs) m m'
-  unfolding before
-  decides fs other = rw (← is, ← ahead, ne_eqb a b other)
+-- the program compares the three numbers as a tuple: the first in which two differ decides
+module _ (x y : ℕ) where
+  by_order : (P : Bool → Bool → Type 0) → (x < y → P true false) → (x ≡ y → P false true) → (y < x → P false false) → P (ltb x y) (eqb x y)
+  by_order P less same more = elim (dec_lt x y) [ yes l ↦ rw (le-leb (suc x) y l, ne_eqb x y (omega arith)) (less l) | no n ↦ elim (dec_lt y x) [ yes m ↦ rw (lt-leb (suc x) y (omega arith), ne_eqb x y (omega arith)) (more m) | no k ↦ let e : x ≡ y = omega arith in rw (lt-leb (suc x) y (omega arith), eq-eqb x y e) (same e) ] ]
 
-  pub alike : (fs : List ℕ) → a ≡ b → before fs m m' ≡ before (f ∷ fs) m m'
-  unfolding before
-  alike fs same = rw (← is, ← ahead, eq-eqb a b same)
+  first_decides : (then : Ordering → Option Ordering) → then Less ≡ Some Less → then Greater ≡ Some Greater →
+      is_some_and is_lt (then (nat_cmp x y)) ≡ choose (eqb x y) (is_some_and is_lt (then Equal)) (ltb x y)
+  first_decides then l g =
+      by_order (λ less same. is_some_and is_lt (then (cond less Less (cond same Equal Greater))) ≡ choose same (is_some_and is_lt (then Equal)) less)
+      (λ _. rw l) (λ _. refl) (λ _. rw g)
 
-  pub last_decides : ltb a b ≡ before (f ∷ []) m m'
-  unfolding before
-  last_decides = rw (← is, ← ahead) (go (eqb a b) refl)
-    where
-      go : (t : Bool) → eqb a b ≡ t → ltb a b ≡ choose t false (ltb a b)
-      go true t = lt-leb (suc a) b (omega (arith, eqb-true a b t))
-      go false t = refl
+pub tuple_before : (m m' : Member) {a b c a' b' c' : ℕ} → a ≡ field m KIND → b ≡ field m SPAN → c ≡ field m SPACING → a' ≡ field m' KIND → b' ≡ field m' SPAN → c' ≡ field m' SPACING →
+    is_some_and is_lt (partial_ordering_then (partial_ordering_then (Some (nat_cmp a a')) (Some (nat_cmp b b'))) (Some (nat_cmp c c'))) ≡ before sequence_fields m m'
+unfolding before
+tuple_before m m' {a = a} {b = b} {c = c} {a' = a'} {b' = b'} {c' = c'} p q r p' q' r' =
+    rw (← p, ← q, ← r, ← p', ← q', ← r')
+    (first_decides a a' (λ o. partial_ordering_then (partial_ordering_then (Some o) (Some (nat_cmp b b'))) (Some (nat_cmp c c'))) refl refl ∙
+    ap (λ (t : Bool). choose (eqb a a') t (ltb a a')) (first_decides b b' (λ o. partial_ordering_then (Some o) (Some (nat_cmp c c'))) refl refl ∙
+    ap (λ (t : Bool). choose (eqb b b') t (ltb b b')) (first_decides c c' (λ o. Some o) refl refl)))
 
 -- the test and the words
 module _ (m m' : Member) where

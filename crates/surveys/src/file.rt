@@ -50,6 +50,7 @@ fn first_fault(bytes: &[u8], count: usize) -> Result<(), Refusal>
     requires { SURVEY_HEADER + RECORD * count ≤ length bytes.now }
     ensures { result ≡ first_fault 1 (record_faults bytes.now count) }
 {
+    // Stays: an answer beside the loops, which are left by their label: document 01's named form of `first_fault`.
     let mut answer = Ok(());
     'records: for i in 0..count {
         let m = record_at(bytes, i);

@@ -1,6 +1,6 @@
 // The order of a survey's records: from version 2 they stand by kind, then span, then spacing.
 ghost use Rattle.std.specs.Prelude.{◌≡◌, ◌+◌, ◌-◌, ◌*◌, ◌≤◌, ◌<◌, length};
-ghost use Rattle.member.specs.Fields.{FIELDS, field};
+ghost use Rattle.member.specs.Fields.{FIELDS, KIND, SPAN, SPACING, field};
 ghost use Rattle.surveys.specs.Sequence.{sequence_fields, before};
 ghost use Rattle.surveys.specs.SurveyFile.{SURVEY_HEADER, RECORD, record_at, sequence_answer};
 
@@ -21,23 +21,24 @@ fn field_at(bytes: &[u8], i: usize, f: usize) -> u16
     word_at(bytes, HEADER + RECORD * i + 2 * f)
 }
 
+// The numbers by which the records stand.
+fn sequence_of(bytes: &[u8], i: usize) -> (u16, u16, u16)
+    requires { SURVEY_HEADER + RECORD * (i + 1) ≤ length bytes.now }
+    ensures { (result.0 ≡ field (record_at bytes.now i) KIND) × (result.1 ≡ field (record_at bytes.now i) SPAN) × (result.2 ≡ field (record_at bytes.now i) SPACING) }
+{
+    (
+        field_at(bytes, i, KIND),
+        field_at(bytes, i, SPAN),
+        field_at(bytes, i, SPACING),
+    )
+}
+
 // The record of index i stands before the one of index i - 1: the first of kind, span and spacing in which the two differ is less.
 fn is_before(bytes: &[u8], i: usize) -> bool
     requires { (1 ≤ i) × (SURVEY_HEADER + RECORD * (i + 1) ≤ length bytes.now) }
     ensures { result ≡ before sequence_fields (record_at bytes.now i) (record_at bytes.now (i - 1)) }
 {
-    let ahead = i - 1;
-    let kind = field_at(bytes, i, KIND);
-    let kind_ahead = field_at(bytes, ahead, KIND);
-    if kind != kind_ahead {
-        return kind < kind_ahead;
-    }
-    let span = field_at(bytes, i, SPAN);
-    let span_ahead = field_at(bytes, ahead, SPAN);
-    if span != span_ahead {
-        return span < span_ahead;
-    }
-    field_at(bytes, i, SPACING) < field_at(bytes, ahead, SPACING)
+    sequence_of(bytes, i) < sequence_of(bytes, i - 1)
 }
 
 // The first record that stands before its predecessor. Version 1 keeps free order.

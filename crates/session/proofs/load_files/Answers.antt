@@ -8,7 +8,7 @@ use Rattle.session.proofs.State.{valid_new, valid_survey, first_refused, second_
 use Rattle.session.proofs.load_files.Goals as goal
 use Rattle.session.proofs.load_files.Goals.{In-Ok}
 
-read : (c : In-Ok) → let bytes = c.args.survey.now in ((read_survey bytes).answer ≡ Ok tt) × ((read_survey bytes).survey ≡ c.in-Ok.survey)
+read : (c : In-Ok) → let bytes = c.args.survey.now in ((read_survey bytes).answer ≡ Ok tt) × ((read_survey bytes).survey ≡ c.in-Ok.taken)
 read c = taken_ok _ _ _ (sym c.read_survey.ensures ∙ c.in-Ok.is)
 
 pub invariant_of-session : goal.invariant_of-session

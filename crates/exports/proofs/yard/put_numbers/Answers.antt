@@ -1,7 +1,8 @@
 -- `put_numbers` meets its contract. The loop's invariant: the list has the numbers of the answers passed, and then what was there.
 use mathlib.Core.Path.{◌≡◌, refl}
 use native.Mathlib.Omega.{arith}
-use lib.ListN.{length, length-set}
+use lib.ListN.{length, take, length-set}
+use lib.Seq.{take_all}
 use Rattle.exports.proofs.Rows.{rows_length, turn}
 use Rattle.exports.proofs.yard.put_numbers.Goals as goal
 use Rattle.exports.proofs.yard.put_numbers.Goals.{At-loop-i}
@@ -10,7 +11,7 @@ use Rattle.exports.proofs.yard.put_numbers.Goals.{At-loop-i}
 kept : (c : At-loop-i) → length c.loop-i.list ≡ length c.args.list.now
 kept c =
     let a = c.args in
-    rw c.loop-i.invariant (rows_length a.answers a.list.now c.loop-i.i (omega arith) (omega arith))
+    rw c.loop-i.invariant (rows_length a.answers.now a.list.now c.loop-i.i (omega arith) (omega arith))
 
 pub loop-i-init : goal.loop-i-init
 loop-i-init c = refl
@@ -27,12 +28,14 @@ bounds-list-at-in-loop-i-2 c = simp length-set (omega (arith, kept (goal.at.boun
 pub loop-i-preserved : goal.loop-i-preserved
 loop-i-preserved c =
     let a = c.args in
-    turn a.answers a.list.now c.loop-i.i _ (omega arith) (omega arith) c.loop-i.invariant c.verdict_number.ensures
+    turn a.answers.now a.list.now c.loop-i.i _ (omega arith) (omega arith) c.loop-i.invariant c.verdict_number.ensures
 
 pub shape_of-list : goal.shape_of-list
 shape_of-list c = kept (goal.at.shape_of-list c).At-loop-i
 
 pub returns : goal.returns
 returns c =
-    let ended : c.loop-i.i ≡ c.args.count = omega arith in
-    rw ended at c.loop-i.invariant
+    let js = c.args.answers.now in
+    let ended : c.loop-i.i ≡ length js = omega arith in
+    let all : take (length js) js ≡ js = take_all (length js) js (omega arith) in
+    rw (ended, all) at c.loop-i.invariant
