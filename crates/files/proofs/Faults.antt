@@ -45,11 +45,6 @@ pub one_refused : (a b : Reading) (r : Refusal) → or_else a b ≡ Err r → (a
 one_refused (Ok tt) b r e = inr (refl, e)
 one_refused (Err q) b r e = inl e
 
--- two tests and the rest of their row
-pub or_else_row : (a b rest : Reading) → or_else (or_else a b) rest ≡ or_else a (or_else b rest)
-or_else_row (Ok tt) b rest = refl
-or_else_row (Err r) b rest = refl
-
 -- a test, and a row of tests, that finds nothing
 pub or_none : (a : Reading) → or_else a (Ok tt) ≡ a
 or_none (Ok tt) = refl
