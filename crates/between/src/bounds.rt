@@ -25,9 +25,9 @@ fn verdict_between(first: Verdict, second: Verdict) -> Between
 }
 
 // The permitted loads of both surveys into the list, the lowest first. Each stands before its vehicle load.
-fn put_bounds(list: &mut [u64], low: [u64; LOADS], high: [u64; LOADS], count: usize)
-    requires { (count ≤ MOST_MEMBERS) × (2 * count ≤ length list.old) }
-    ensures { list.new ≡ bounds_written (λ i. get_or low (2 * i) 0) (λ i. get_or high (2 * i) 0) count list.old }
+fn put_bounds(list: &mut [u64], low: &[u64], high: &[u64], count: usize)
+    requires { (2 * count ≤ length low.now) × (2 * count ≤ length high.now) × (2 * count ≤ length list.old) }
+    ensures { list.new ≡ bounds_written (λ i. get_or low.now (2 * i) 0) (λ i. get_or high.now (2 * i) 0) count list.old }
 {
     for i in 0..count {
         let at = 2 * i;
@@ -46,6 +46,6 @@ pub fn fill(first: Survey, second: Survey, v: Vehicle, list: &mut [u64]) -> Betw
     let best = judging::judge(first, v, &mut high);
     let mut low = [0u64; LOADS];
     let worst = judging::judge(second, v, &mut low);
-    put_bounds(list, low, high, first.count);
+    put_bounds(list, &low, &high, first.count);
     verdict_between(best.verdict, worst.verdict)
 }

@@ -35,6 +35,7 @@ pub fn judge_between(
     ensures is { result ≡ answered_between v first.now second.now (length list.old) }
     ensures list { list.new ≡ between_list v first.now second.now list.old }
 {
+    // Stays: no Option of a vehicle, since the contract says by the axles what is loaded.
     Fault::NoVehicle.unless(v.axles != 0)?;
     let first_survey = read_survey(first)?;
     let second_survey = read_survey(second)?;

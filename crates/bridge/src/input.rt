@@ -4,7 +4,7 @@ ghost use Rattle.session.specs.Answers.{loaded};
 ghost use Rattle.bridge.specs.Input.{ENOUGH, LoadedFrom, survey_length, load_input};
 
 use session::{After, load_files};
-use surveys::file::{HEADER, RECORD};
+use surveys::file::{HEADER, RECORD, count_of};
 
 // The longest survey and the longest vehicle that a count byte can call for, and one byte more.
 pub const ENOUGH: usize = HEADER
@@ -19,7 +19,7 @@ fn survey_length(input: &[u8]) -> usize
     if input.len() < HEADER {
         return input.len();
     }
-    let called = HEADER + RECORD * usize::from(input[HEADER - 1]);
+    let called = HEADER + RECORD * count_of(input);
     input.len().min(called)
 }
 

@@ -62,7 +62,7 @@ fn weight_fits(wanted: Wanted, weight: Kgf) -> bool
     ensures { result ≡ weight_fits wanted weight.0 }
 {
     match wanted {
-        Wanted::Version1 => weight.0 <= 60000,
+        Wanted::Version1 => weight <= Kgf(60000),
         Wanted::Version2 => true,
     }
 }

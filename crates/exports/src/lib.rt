@@ -16,6 +16,7 @@ use surveys::file::count_of;
 
 // The numbers of the judgement, then the number of members, whose loads the list has; 0 members where anything is refused. The
 // host's declaration has the same fields in the same order.
+// Stays: numbers, as the C interface has them.
 #[repr(C)]
 #[derive(Clone, Copy)]
 pub struct Loads {

@@ -13,6 +13,7 @@ use vehicles::yard::MOST_VEHICLES;
 
 // Number and place of a refusal, both 0 where there is none; then the number of vehicles, whose answers the list has, and of those that
 // pass, both 0 where anything is refused. The host's declaration has the same fields in the same order.
+// Stays: numbers, as the C interface has them.
 #[repr(C)]
 #[derive(Clone, Copy)]
 pub struct YardNumbers {

@@ -30,6 +30,7 @@ pub enum Fault {
 
 impl Fault {
     // The documents' number.
+    // Stays: a match, since the edits unused_as_range and sequence_as_order give two faults one number, which no two discriminants have.
     pub fn number(self) -> u64
         ensures { result ≡ fault_number self }
     {

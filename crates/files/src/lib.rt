@@ -13,6 +13,7 @@ pub mod words;
 use std::error::Error;
 use std::fmt;
 
+// Stays: a number and no `Fault`, since `refused_by` and what the theorems say of a refusal speak of the number, and the host gets it.
 // A refusal: the documents' number, and the place of the record that has the fault. What is taken answers `Ok`.
 #[derive(Clone, Copy, Debug, PartialEq, Eq)]
 pub struct Refusal {

@@ -14,6 +14,6 @@ impl Limits {
     pub fn contains(self, n: u32) -> bool
         ensures { result ≡ is_in (self.low ‥ self.high) n }
     {
-        self.low <= n && n <= self.high
+        (self.low..=self.high).contains(&n)
     }
 }

@@ -9,6 +9,7 @@ pub fn put_number(out: &mut [u8], at: usize, width: usize, number: u64)
     ensures { out.new ≡ paste out.old at (bytes_of width number) width }
 {
     let mut rest = number;
+    // Stays: no `to_le_bytes`, which has eight bytes, since `width` may be any number.
     for i in 0..width {
         out[at + i] = (rest % 256) as u8;
         rest /= 256;

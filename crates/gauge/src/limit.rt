@@ -11,6 +11,7 @@ use member::kind::Kind;
 use member::record::Member;
 use section::Mm;
 
+// Stays: a function and no `From`, which could not ask for the bound.
 // 10 mm to the centimetre. No number of an allowed record is above 10,000.
 fn span_in_mm(m: Member) -> Mm
     requires { field m SPAN ≤ 10000 }
@@ -30,6 +31,7 @@ fn span_divisor(kind: Kind) -> u64
 }
 
 // A fifth more for class 1.
+// Stays: the class is a plain number, as `Vehicle` has it and `gauge` promises its answer of every u8.
 fn fifths(class: u8) -> u64
     ensures { result ≡ fifths_of class }
 {

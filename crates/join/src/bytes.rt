@@ -14,9 +14,7 @@ pub fn put_head(out: &mut [u8], count: usize)
     requires { SURVEY_HEADER ≤ length out.old }
     ensures { out.new ≡ paste out.old 0 (head_bytes count) SURVEY_HEADER }
 {
-    out[0] = b'T';
-    out[1] = b'B';
-    out[2] = b'R';
+    out[..3].copy_from_slice(b"TBR");
     put_number(out, 3, 2, VERSION);
     put_number(out, 5, 1, count as u64);
 }

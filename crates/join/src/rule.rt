@@ -6,7 +6,7 @@ ghost use Rattle.join.specs.Rule.{size_fields, section_rule, height_rule, rule_o
 use member::record::{CLOSE_STRINGER, DEAD_LOAD, HEIGHT, S1, S2, S3, S4, SPACING, SPAN};
 use member::wear::{is_loss, is_rot};
 
-// Stays: kind and code are numbers here and not enums, since `rule_of` answers for every number, and its contract may not ask more.
+// Stays: kind and code are numbers here and not enums, since `rule_of`, `ListedMustAgree` and `MeanTaken` speak of every number.
 
 #[derive(Clone, Copy)]
 pub enum Rule {

@@ -13,6 +13,7 @@ use session::{judge_files, verdict_number};
 
 // Number and place of a refusal, both 0 where there is none; then figure, governing place and verdict (1 pass, 0 refuse), all 0
 // where a file is refused. The host's declaration has the same fields in the same order.
+// Stays: numbers, as the C interface has them.
 #[repr(C)]
 #[derive(Clone, Copy)]
 pub struct Numbers {

@@ -80,6 +80,7 @@ fn stiffness(m: Member) -> u64
     stiffness_number(m.spacing(), inertia(m), m.span(), deck_inertia(m.deck()))
 }
 
+// Stays: K and S each have a function, as they have a column and a definition.
 // The factor K of a member's species, in tenths.
 fn bending(m: Member) -> u64
     requires { (1 ≤ field m SPECIES) × (field m SPECIES ≤ 8) }

@@ -14,6 +14,7 @@ use section::{Cm, Kgf, KgfPerM, Mm};
 use spread::inertia::Deck;
 
 // The places of a member's sixteen numbers, in the file's order.
+// Stays: numbers, since document 01's named form loops over the fields, and `field` of specs/ takes any number.
 pub const KIND: usize = 0;
 
 pub const SPECIES: usize = 1;
@@ -56,7 +57,7 @@ pub const MOST_MEMBERS: usize = 255;
 
 pub const MOST_AXLES: usize = 16;
 
-// Stays: no invariant, since `code_fault`, `order_answer`, `rule_of` and `read_survey` answer for records with any numbers; what a rating needs of
+// Stays: no invariant, since `code_fault`, `order_answer`, `joined_member` and `read_survey` answer for records with any numbers; what a rating needs of
 // one, `AllowedMember`, stands in the contracts.
 // The sixteen numbers of a member's record.
 #[derive(Clone, Copy)]
@@ -113,6 +114,7 @@ impl Member {
         Kind::try_from(self.fields[KIND]).unwrap()
     }
 
+    // Stays: four methods, since each gives a quantity its name and unit; one that took the field would be less plain.
     // l
     pub fn span(self) -> Cm
         ensures { result.0 ≡ field self SPAN }

@@ -101,6 +101,7 @@ pub fn rate(m: Member, v: Vehicle) -> Rating
 fn with_member(j: Judgement, r: Rating, place: u64) -> Judgement
     ensures { result ≡ with_member j r place }
 {
+    // Stays: no Option for "none yet", since `with_member` of specs/ chooses by the place.
     let first = place == 1;
     let lower = first || r.permitted < j.figure;
     let governs = first || r.margin < j.margin;

@@ -44,6 +44,8 @@ fn known_list() -> [u64; MOST_ENTRIES] {
     list
 }
 
+// Stays: three calls with a lent list of their own, as buffers.rt has two with a buffer: a function that took the call as a closure would have
+// to say what it asks of the list.
 // Judges with the list, and prints the whole list as it is then.
 pub fn judge(out: &mut Out, session: Session, entries: usize) -> Session {
     if MOST_ENTRIES < entries {
@@ -109,7 +111,7 @@ const SIGN: u32 = 2147483648;
 // The float of a pattern. Of a NaN's pattern none can be made, so a NaN is worked out; the call knows only one.
 fn float_of(bits: u32) -> f32 {
     if INFINITY < bits % SIGN {
-        0.0 / 0.0
+        f32::NAN
     } else {
         f32::from_bits(bits)
     }

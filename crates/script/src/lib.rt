@@ -104,6 +104,7 @@ fn convert(out: &mut Out, session: Session, bytes: &[u8]) -> Option<Session> {
     if bytes.len() < 1 + NUMBER {
         return None;
     }
+    // Stays: a match in its one place and no TryFrom.
     let wanted = match bytes[0] {
         1 => Wanted::Version1,
         2 => Wanted::Version2,
@@ -128,7 +129,7 @@ fn gauge(out: &mut Out, session: Session, bytes: &[u8]) -> Option<Session> {
     if bytes.len() < NUMBER + 3 * BITS {
         return None;
     }
-    let place = number_at(bytes, 0) as u64;
+    let place = u64::from(word_at(bytes, 0));
     let bits = [
         bits_at(bytes, NUMBER),
         bits_at(bytes, NUMBER + BITS),

@@ -29,6 +29,13 @@ impl Out {
         }
     }
 
+    // Two digits to the base 16.
+    pub fn hex(&mut self, n: u8) {
+        if self.written.is_ok() {
+            self.written = print!(self.rt; "{n:02x}");
+        }
+    }
+
     pub fn end(self) -> io::Result<()> {
         self.written
     }

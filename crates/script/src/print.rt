@@ -1,6 +1,4 @@
 // The answers as text: a space before every field, and the document's number and place of a refusal.
-ghost use Rattle.std.specs.Prelude.{◌<◌};
-
 use crate::out::Out;
 use between::Between;
 use files::Refusal;
@@ -29,7 +27,7 @@ impl Fields for () {
     }
 }
 
-// How many vehicles pass, or how many bytes were written.
+// How many vehicles pass, how many bytes were written, or an entry of a lent list.
 impl Fields for u64 {
     fn print(self, out: &mut Out) {
         number(out, self);
@@ -38,10 +36,8 @@ impl Fields for u64 {
 
 impl Fields for Verdict {
     fn print(self, out: &mut Out) {
-        out.bytes(match self {
-            Verdict::Pass => b" pass",
-            Verdict::Refuse => b" refuse",
-        });
+        out.bytes(b" ");
+        out.print(self);
     }
 }
 
@@ -65,6 +61,7 @@ impl Fields for Judgement {
     }
 }
 
+// Stays: no Display of these two, whose words are of the script only; a float has no text of its own there.
 impl Fields for Between {
     fn print(self, out: &mut Out) {
         out.bytes(match self {
@@ -111,13 +108,6 @@ pub fn answer<T: Fields>(out: &mut Out, answer: Result<T, Refusal>) {
     out.bytes(b"\n");
 }
 
-// A digit of a number to the base 16.
-fn digit(n: u8) -> u8
-    requires { n < 16 }
-{
-    if n < 10 { b'0' + n } else { b'a' + (n - 10) }
-}
-
 // A buffer's bytes, two digits each; no space behind the word where it is empty.
 pub fn bytes(out: &mut Out, buffer: &[u8]) {
     out.bytes(b"bytes");
@@ -125,7 +115,7 @@ pub fn bytes(out: &mut Out, buffer: &[u8]) {
         out.bytes(b" ");
     }
     for n in buffer {
-        out.bytes(&[digit(*n / 16), digit(*n % 16)]);
+        out.hex(*n);
     }
     out.bytes(b"\n");
 }

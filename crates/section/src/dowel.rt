@@ -67,6 +67,7 @@ fn least_term(k: Line, c: u64, a: u64, d: u64) -> CentiKgf
 
 // A dowelled joint: the dowels' type (1 steel, 2 nail, 3 oak) and diameter, the thickness of the middle and of the outer pieces,
 // their rot, and how many cuts the dowels have.
+// Stays: the type is a number, since `dowel_capacity` is public and promises its answer of every number (`material_of`).
 #[derive(Clone, Copy)]
 pub struct Dowels {
     pub material: u64,

@@ -28,7 +28,7 @@ fn species_factors(species: usize) -> Factors
     }
 }
 
-// Stays: the edits bending_factors_for_shear and shear_factors_for_bending stand on these two.
+// Stays: two functions over one table, since each promises a definition of its own, and an edit of each is kept.
 // The factor K, for bending and tension.
 pub fn bending_factor(species: usize) -> u64
     requires { (1 ≤ species) × (species ≤ 8) }

@@ -11,7 +11,7 @@ use Rattle.member.specs.Fields.{MOST_MEMBERS}
 use lib.Dec.{eqb, leb}
 use lib.Seq.{get_or-take}
 use borrow.Author.Tests.{eq-eqb, ne_eqb, le-leb, leb-true}
-use Rattle.member.specs.Format.{AllowedVehicle, In, ◌‥◌}
+use Rattle.member.specs.Format.{AllowedMember, AllowedVehicle, In, ◌‥◌}
 use Rattle.member.specs.declared.record.Member.{Member}
 use Rattle.member.specs.declared.record.Vehicle.{Vehicle}
 use Rattle.rating.specs.Judgement.{judgement_of}
@@ -27,7 +27,7 @@ use Rattle.between.proofs.Pairs.{taken_survey_allowed}
 use Rattle.session.specs.Answers.{Answer, Values, refused_by, judgement_answer}
 use Rattle.session.specs.Calls.{Valid, new_session, members, state_fault, rate_fault, judge_fault, load_survey, load_vehicle, judge, load_files, unless_fault, stored_vehicle, then_judge, judge_files}
 use Rattle.session.specs.Yard.{alone}
-use Rattle.session.specs.Place.{AtPlace, NotAtPlace, fault_at}
+use Rattle.session.specs.Place.{FoundAt, NotFoundAt, fault_at}
 use Rattle.session.specs.Loaded.{Session}
 
 -- a survey and a vehicle are loaded
@@ -82,36 +82,37 @@ pub few_members : (s : Session) → Valid s → s.survey.count ≤ MOST_MEMBERS
 few_members s h = elim (dec_le s.survey.count 0) [ yes l ↦ omega arith | no l ↦ (h.survey (omega arith)).count.1 ]
 
 -- where rate's tests find no fault the place is of the survey, and the member there and the vehicle are allowed
-module _ (s : Session) (place : ℕ) (valid : Valid s) (clear : fault_at s place ≡ 0) where
-  abbrev passed_tests : Ready s.survey.count s.vehicle.axles × (In (1 ‥ s.survey.count) place)
-  passed_tests = rate_clear s.survey.count s.vehicle.axles place clear
+pub record AtPlace (s : Session) (place : ℕ) : Type 0 where
+  pub first : 1 ≤ place
+  pub index : place - 1 < MOST_MEMBERS
+  pub member : AllowedMember (member_at s.survey.members (place - 1))
+  pub vehicle : AllowedVehicle s.vehicle
+  pub used : member_at (members s) (place - 1) ≡ member_at s.survey.members (place - 1)
 
-  pub place_first : 1 ≤ place
-  place_first = passed_tests.1.0
+pub at_place : (s : Session) (place : ℕ) → Valid s → rate_fault s.survey.count s.vehicle.axles place ≡ 0 → AtPlace s place
+at_place s place valid e =
+    let clear = rate_clear s.survey.count s.vehicle.axles place e in
+    let survey = valid.survey clear.0.survey in
+    let inside : place - 1 < s.survey.count = omega (arith, clear.1) in
+    record {
+      first = clear.1.0;
+      index = omega (arith, survey.count);
+      member = survey.members (place - 1) inside;
+      vehicle = valid.vehicle clear.0.vehicle;
+      used = get_or-take s.survey.count s.survey.members (place - 1) _ inside;
+    }
 
-  survey_allowed : AllowedSurvey s.survey
-  survey_allowed = valid.survey passed_tests.0.survey
-
-  inside : place - 1 < s.survey.count
-  inside = omega (arith, passed_tests.1)
-
-  pub place_index : place - 1 < MOST_MEMBERS
-  place_index = omega (arith, inside, survey_allowed.count)
-
-  pub found_at : (m : Member) → m ≡ member_at s.survey.members (place - 1) → AtPlace s place m
-  found_at m e =
-      record {
-        clear = clear;
-        is = e ∙ sym (get_or-take s.survey.count s.survey.members (place - 1) _ inside);
-        member = rw e (survey_allowed.members (place - 1) inside);
-        vehicle = valid.vehicle passed_tests.0.vehicle;
-      }
+-- the member there, as the code finds it
+pub found_at : (s : Session) (place : ℕ) → Valid s → fault_at s place ≡ 0 → (m : Member) → m ≡ member_at s.survey.members (place - 1) → FoundAt s place m
+found_at s place valid clear m e =
+    let there = at_place s place valid clear in
+    record { clear = clear; is = e ∙ sym there.used; member = rw e there.member; vehicle = there.vehicle }
 
 -- the answer of a call on a place, by what was found there
-pub place_clear : (s : Session) (place : ℕ) (m : Member) (a : Answer) → AtPlace s place m → a ≡ unless_fault (fault_at s place) a
+pub place_clear : (s : Session) (place : ℕ) (m : Member) (a : Answer) → FoundAt s place m → a ≡ unless_fault (fault_at s place) a
 place_clear s place m a h = rw (eq-eqb (fault_at s place) 0 h.clear)
 
-pub place_faulty : (s : Session) (place : ℕ) (f : Refusal) (a : Answer) → NotAtPlace s place f → refused_by f ≡ unless_fault (fault_at s place) a
+pub place_faulty : (s : Session) (place : ℕ) (f : Refusal) (a : Answer) → NotFoundAt s place f → refused_by f ≡ unless_fault (fault_at s place) a
 place_faulty s place f a h = rw (h.is, ne_eqb (fault_at s place) 0 h.fault)
 
 -- a load by its answer: what was read is stored, or nothing is

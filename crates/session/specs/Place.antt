@@ -12,16 +12,16 @@ abbrev pub fault_at : Session → (place : ℕ) → ℕ
 fault_at s place = rate_fault s.survey.count s.vehicle.axles place
 
 -- no test fails: the member and the vehicle are allowed
-pub record AtPlace (s : Session) (place : ℕ) (m : Member) : Type 0 where
+pub record FoundAt (s : Session) (place : ℕ) (m : Member) : Type 0 where
   pub clear : fault_at s place ≡ 0
   pub is : m ≡ member_at (members s) (place - 1)
   pub member : AllowedMember m
   pub vehicle : AllowedVehicle s.vehicle
 
 -- a test fails
-pub record NotAtPlace (s : Session) (place : ℕ) (r : Refusal) : Type 0 where
+pub record NotFoundAt (s : Session) (place : ℕ) (r : Refusal) : Type 0 where
   pub fault : ¬ (fault_at s place ≡ 0)
   pub is : r ≡ record { number = fault_at s place; place = 0 }
 
 abbrev pub MemberFound : Session → (place : ℕ) → Result Member Refusal → Type 0
-MemberFound s place r = MatchResult r (AtPlace s place) (NotAtPlace s place)
+MemberFound s place r = MatchResult r (FoundAt s place) (NotFoundAt s place)

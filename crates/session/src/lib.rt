@@ -216,7 +216,7 @@ pub fn load_files(survey: &[u8], vehicle: &[u8]) -> After<()>
 }
 
 // 1 for pass, 0 for refuse.
-// Stays: a function and no `From`, since these are the numbers of the C interface, and `Verdict` is of another crate.
+// Stays: a public function and no `From`, since these are the numbers of the C interface, and `Verdict` is of another crate.
 pub fn verdict_number(v: Verdict) -> u64
     ensures { result ≡ verdict_number v }
 {

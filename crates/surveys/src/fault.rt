@@ -9,6 +9,7 @@ use files::fault::Fault;
 use files::limits::Limits;
 use member::record::{CLOSE_STRINGER, CODE, KIND, MU_A, MU_B, Member, SPAN, SPECIES};
 
+// Stays: ranges, as the definition has them; no enum has more species than these numbers.
 const KINDS: Limits = Limits { low: 1, high: 7 };
 
 const ALL_SPECIES: Limits = Limits { low: 1, high: 8 };

@@ -10,8 +10,8 @@ use member::record::{
     S6, SPACING, SPAN, SPECIES,
 };
 
-// Stays: kinds and codes are numbers here and not enums, since a file may have any number there, and `suits`, `used` and `range_of`
-// answer for each of them.
+// Stays: kinds and codes are numbers in this file and in fault.rt, since `suits`, `used` and `range_of` are over numbers: with enums six contracts
+// would turn them back.
 
 // "kinds 1 and 2 .. and code 5"; kind 7 has logs and sawn beams.
 #[tactic(auto, unfolding(member::specs::Format::suits))]
@@ -61,7 +61,7 @@ pub fn is_used(kind: u16, code: u16, field: usize) -> bool
     !unused_by_kind(kind, field) && !unused_by_code(kind, code, field)
 }
 
-const fn limits(low: u32, high: u32) -> Limits
+fn limits(low: u32, high: u32) -> Limits
     ensures { (result.low ≡ low) × (result.high ≡ high) }
 {
     Limits { low, high }

@@ -11,6 +11,7 @@ use files::words::word_at;
 use member::record::{KIND, SPACING, SPAN};
 
 // The version from which the records stand in order.
+// Stays: a number, since `sequence_answer` answers for any version.
 const SEQUENCE_FROM: u16 = 2;
 
 // The number in a field of a record.
@@ -49,6 +50,7 @@ pub fn sequence_answer(bytes: &[u8], count: usize) -> Result<(), Refusal>
     if word_at(bytes, 3) < SEQUENCE_FROM {
         return Ok(());
     }
+    // Stays: a loop of its own, as the like in between, convert and join: a function that took the test would be no shorter than its call.
     for i in 1..count {
         if is_before(bytes, i) {
             return Err(Fault::Sequence.at(i as u64 + 1));

@@ -15,7 +15,7 @@ pub const HEADER: usize = 9;
 pub const LONGEST_AXLE: usize = 6;
 
 // The fields of an axle: its weight, and its distance from the axle in front.
-// Stays: numbers, since document 01's named form of `first_fault` counts the fields, and `axle_field` of specs/ takes any number.
+// Stays: numbers, since document 01's named form loops over the fields, and `axle_limits` and `axle_field` promise for every number.
 pub const WEIGHT: usize = 0;
 
 pub const DISTANCE: usize = 1;

@@ -15,11 +15,6 @@ judge-worst-requires c =
     let p = c.requires in
     (p.1, p.2, omega (arith, p.1.count))
 
-pub put_bounds-requires : goal.put_bounds-requires
-put_bounds-requires c =
-    let p = c.requires in
-    (p.0.count.1, p.4)
-
 pub shape_of-list : goal.shape_of-list
 shape_of-list c =
     let p = c in

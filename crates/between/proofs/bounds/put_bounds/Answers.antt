@@ -8,4 +8,4 @@ pub loop-i-init : goal.loop-i-init
 loop-i-init c = bounds_none _ _ _
 
 pub loop-i-preserved : goal.loop-i-preserved
-loop-i-preserved c = rw c.loop-i.invariant (bounds_next _ _ _ c.loop-i.i (omega (arith, c.requires.1)))
+loop-i-preserved c = rw c.loop-i.invariant (bounds_next _ _ _ c.loop-i.i (omega (arith, c.requires.2)))
