@@ -11,6 +11,7 @@ const LEAST_EXPONENT: u32 = 121;
 const GREATEST_EXPONENT: u32 = 135;
 
 // A number with the least exponent is its mantissa, with the leading 1, in so many parts of a 64th.
+// Stays: a count of parts beside the bit `LEADING_ONE`, which is as great.
 const PARTS: u64 = 8388608;
 
 // A number in parts of a 64th, by its mantissa with the leading 1 and its exponent.

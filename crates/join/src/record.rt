@@ -15,6 +15,7 @@ fn rule_at(m: Member, f: usize) -> Rule
     rule_of(m.fields[KIND], m.fields[CODE], f)
 }
 
+// Stays: two functions, since each has a definition of its own, and `join_fault` asks the first of every field before the second.
 fn field_agrees(m: Member, n: Member, f: usize) -> bool
     requires { f < FIELDS }
     ensures { result ≡ field_agrees m n f }

@@ -110,6 +110,7 @@ fn joint_front(m: Member) -> u64
         Kind::DowelledJoint => {
             dowelled(h, dowel_capacity(m.dowels()), bending(m), m.number(S6), b)
         }
+        // Stays: the two numbers of code 4 by their fields, as `net_area` of specs/ has them.
         Kind::KeyedJoint => keyed(h, area_left(m.number(S1), m.number(S2)), shear(m), b),
         Kind::SteelPlates => plates(h, area_left(m.number(S1), m.number(S2)), b),
         _ => unreachable!(),

@@ -118,6 +118,7 @@ fn convert(out: &mut Out, session: Session, bytes: &[u8]) -> Option<Session> {
 // The bytes of a float's bits.
 const BITS: usize = 4;
 
+// Stays: as vehicles has it for an axle; a public function for a program's sake is no plainer.
 fn bits_at(bytes: &[u8], at: usize) -> u32
     requires { at + 4 ≤ length bytes.now }
 {

@@ -51,6 +51,7 @@ impl Fields for Rating {
     }
 }
 
+// Stays: beside that of `Rating`, since the fields are others.
 impl Fields for Judgement {
     fn print(self, out: &mut Out) {
         number(out, self.figure.0);

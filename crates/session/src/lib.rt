@@ -87,6 +87,7 @@ impl Session {
     }
 
     // Load a vehicle, in the same way.
+    // Stays: two stores, since one for both would take a closure for a field, and a survey is moved once.
     pub fn load_vehicle(self, bytes: &[u8]) -> After<()>
         ensures { loaded result ≡ load_vehicle self bytes.now }
     {

@@ -14,7 +14,7 @@ const KINDS: Limits = Limits { low: 1, high: 7 };
 
 const ALL_SPECIES: Limits = Limits { low: 1, high: 8 };
 
-// The species is one of the list where the record uses it: `is_within` of that field, apart from it so that the loop over the
+// Stays: the species is one of the list where the record uses it: `is_within` of that field, apart from it so that the loop over the
 // fields keeps the only call of `is_within` and can take it in.
 #[tactic(auto, unfolding(crate::specs::SurveyFile::within, member::specs::Format::range_of, member::specs::Format::ranges))]
 fn species_within(m: Member) -> bool

@@ -16,6 +16,7 @@ use member::record::{MOST_AXLES, Vehicle};
 use section::{Cm, Kgf};
 
 // The versions of a vehicle file.
+// Stays: equal to the surveys' versions today, and of another file.
 const VERSIONS: Limits = Limits { low: 1, high: 2 };
 
 const CLASSES: Limits = Limits { low: 0, high: 1 };
