@@ -4,6 +4,7 @@ ghost use Rattle.files.specs.Reading.{test};
 ghost use Rattle.files.specs.Fault.{fault_number, refusal_at};
 
 use crate::Refusal;
+use crate::answer::test;
 
 // The faults of documents 01 and 02, in the order of their numbers.
 #[derive(Clone, Copy, Debug, PartialEq, Eq)]
@@ -70,7 +71,7 @@ impl Fault {
     pub fn unless(self, holds: bool) -> Result<(), Refusal>
         ensures { result ≡ test (fault_number self) holds }
     {
-        if holds { Ok(()) } else { Err(self.at(0)) }
+        test(self.number(), holds)
     }
 }
 

@@ -4,6 +4,7 @@
 ghost use Rattle.std.specs.Prelude.{Some};
 ghost use Rattle.files.specs.Text.{refusal_text};
 
+pub mod answer;
 pub mod fault;
 pub mod header;
 pub mod limits;
