@@ -6,7 +6,7 @@ ghost use Rattle.spread.specs.Scaled.{scaled_carried, Bounded};
 
 use crate::shares::{Shares, shares_of};
 use section::Cm;
-use section::fraction::round_up;
+use section::fraction::{greater, round_up};
 
 // The two wheels of an axle on stringers that stand d apart: the first is over stringer 3, the second r beyond stringer 3 + m.
 #[derive(Clone, Copy)]
@@ -35,7 +35,7 @@ impl Wheels {
     {
         let mut most: u64 = 0;
         for i in 0..self.m + 8 {
-            most = most.max(self.carried(i));
+            most = greater(most, self.carried(i));
         }
         most
     }

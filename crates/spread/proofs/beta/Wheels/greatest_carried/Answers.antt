@@ -13,4 +13,4 @@ loop-i-init c = refl
 pub loop-i-preserved : goal.loop-i-preserved
 loop-i-preserved c =
     let w = c.args.self in
-    top_next (scaled_carried w.shares w.d w.m w.r) c.loop-i.i c.loop-i.invariant c.carried.ensures c.max-most.ensures
+    top_next (scaled_carried w.shares w.d w.m w.r) c.loop-i.i c.loop-i.invariant c.carried.ensures c.greater-most.ensures
