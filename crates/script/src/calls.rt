@@ -3,7 +3,7 @@ ghost use Rattle.std.specs.Prelude.{◌≤◌, ◌<◌, length};
 
 use crate::out::Out;
 use crate::print;
-use crate::print::Fields;
+use crate::print::{Fields, MOST_JUDGEMENTS};
 use gauge::Readings;
 use rating::judging::{Judgement, Verdict};
 use section::KgfPerM;
@@ -11,9 +11,6 @@ use session::{After, Session};
 
 // The longest list that a script can ask for: two entries a member of the longest survey, and some more.
 const MOST_ENTRIES: usize = 520;
-
-// The longest list of judgements that a script can ask for.
-const MOST_JUDGEMENTS: usize = 40;
 
 // Entry i of a lent list holds KNOWN + i, so that entries that were kept are seen.
 const KNOWN: u64 = 1000000;

@@ -73,46 +73,66 @@ fn pair_of(bytes: &[u8]) -> Option<Pair<'_>> {
     })
 }
 
-// A step answers the next one's session, and none where the script is cut within its bytes.
-fn judge_yard(out: &mut Out, session: Session, bytes: &[u8]) -> Option<Session> {
+// The bytes of a step that is cut, or of a title, are printed. A step hands the next one's session on and no Option of it: it is large, and
+// each such place would be cleared at every step.
+fn cut(out: &mut Out, session: Session, bytes: &[u8]) -> Session {
+    print::line(out, bytes);
+    session
+}
+
+fn load_survey(out: &mut Out, session: Session, bytes: &[u8]) -> Session {
+    calls::told(out, b"survey", session.load_survey(bytes))
+}
+
+fn load_vehicle(out: &mut Out, session: Session, bytes: &[u8]) -> Session {
+    calls::told(out, b"vehicle", session.load_vehicle(bytes))
+}
+
+fn judge_yard(out: &mut Out, session: Session, bytes: &[u8]) -> Session {
     if bytes.len() < NUMBER {
-        return None;
+        return cut(out, session, bytes);
     }
     let entries = number_at(bytes, 0);
-    Some(calls::judge_yard(out, session, &bytes[NUMBER..], entries))
+    calls::judge_yard(out, session, &bytes[NUMBER..], entries)
 }
 
-fn judge_between(out: &mut Out, session: Session, bytes: &[u8]) -> Option<Session> {
-    let pair = pair_of(bytes)?;
-    Some(calls::judge_between(out, session, pair.first, pair.second, pair.number))
+fn judge_between(out: &mut Out, session: Session, bytes: &[u8]) -> Session {
+    let Some(pair) = pair_of(bytes) else {
+        return cut(out, session, bytes);
+    };
+    calls::judge_between(out, session, pair.first, pair.second, pair.number)
 }
 
-fn join(out: &mut Out, session: Session, bytes: &[u8]) -> Option<Session> {
-    let pair = pair_of(bytes)?;
+fn join(out: &mut Out, session: Session, bytes: &[u8]) -> Session {
+    let Some(pair) = pair_of(bytes) else {
+        return cut(out, session, bytes);
+    };
     buffers::join_with(out, pair.first, pair.second, pair.number);
-    Some(session)
+    session
 }
 
-fn couple(out: &mut Out, session: Session, bytes: &[u8]) -> Option<Session> {
-    let pair = pair_of(bytes)?;
+fn couple(out: &mut Out, session: Session, bytes: &[u8]) -> Session {
+    let Some(pair) = pair_of(bytes) else {
+        return cut(out, session, bytes);
+    };
     let after = session.couple(pair.first, pair.second, Cm(pair.number as u64));
-    Some(calls::told(out, b"couple", after))
+    calls::told(out, b"couple", after)
 }
 
-// None where another version is wanted, too.
-fn convert(out: &mut Out, session: Session, bytes: &[u8]) -> Option<Session> {
+// Where another version is wanted the step is cut, too.
+fn convert(out: &mut Out, session: Session, bytes: &[u8]) -> Session {
     if bytes.len() < 1 + NUMBER {
-        return None;
+        return cut(out, session, bytes);
     }
     // Stays: a match in its one place and no TryFrom.
     let wanted = match bytes[0] {
         1 => Wanted::Version1,
         2 => Wanted::Version2,
-        _ => return None,
+        _ => return cut(out, session, bytes),
     };
     let room = number_at(bytes, 1);
     buffers::convert_with(out, &bytes[1 + NUMBER..], wanted, room);
-    Some(session)
+    session
 }
 
 // The bytes of a float's bits.
@@ -126,9 +146,9 @@ fn bits_at(bytes: &[u8], at: usize) -> u32
 }
 
 // A place and three readings.
-fn gauge(out: &mut Out, session: Session, bytes: &[u8]) -> Option<Session> {
+fn gauge(out: &mut Out, session: Session, bytes: &[u8]) -> Session {
     if bytes.len() < NUMBER + 3 * BITS {
-        return None;
+        return cut(out, session, bytes);
     }
     let place = u64::from(word_at(bytes, 0));
     let bits = [
@@ -136,35 +156,27 @@ fn gauge(out: &mut Out, session: Session, bytes: &[u8]) -> Option<Session> {
         bits_at(bytes, NUMBER + BITS),
         bits_at(bytes, NUMBER + 2 * BITS),
     ];
-    Some(calls::gauge(out, session, place, bits))
+    calls::gauge(out, session, place, bits)
 }
 
-// The bytes of a step that is cut, or of a title, are printed.
 fn run_step(out: &mut Out, session: Session, letter: u8, number: usize, bytes: &[u8]) -> Session {
     // Stays: a match and no table of functions, since the steps are the letters of a file and take different numbers and files.
-    let next = match letter {
+    match letter {
         b'N' => {
             print::line(out, b"new");
-            Some(Session::new())
+            Session::new()
         }
-        b'S' => Some(calls::told(out, b"survey", session.load_survey(bytes))),
-        b'V' => Some(calls::told(out, b"vehicle", session.load_vehicle(bytes))),
-        b'R' => Some(calls::rate(out, session, number as u64)),
-        b'J' => Some(calls::judge(out, session, number)),
+        b'S' => load_survey(out, session, bytes),
+        b'V' => load_vehicle(out, session, bytes),
+        b'R' => calls::rate(out, session, number as u64),
+        b'J' => calls::judge(out, session, number),
         b'Y' => judge_yard(out, session, bytes),
         b'B' => judge_between(out, session, bytes),
         b'C' => convert(out, session, bytes),
         b'M' => join(out, session, bytes),
         b'G' => gauge(out, session, bytes),
         b'K' => couple(out, session, bytes),
-        _ => None,
-    };
-    match next {
-        Some(session) => session,
-        None => {
-            print::line(out, bytes);
-            session
-        }
+        _ => cut(out, session, bytes),
     }
 }
 

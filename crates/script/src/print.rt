@@ -5,6 +5,9 @@ use files::Refusal;
 use gauge::Deflection;
 use rating::judging::{Judgement, Rating, Verdict};
 
+// The longest list of judgements that a script can ask for.
+pub const MOST_JUDGEMENTS: usize = 40;
+
 pub fn line(out: &mut Out, bytes: &[u8]) {
     out.bytes(bytes);
     out.bytes(b"\n");
