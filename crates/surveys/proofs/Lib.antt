@@ -1,4 +1,5 @@
 -- Cited by other crates: `Surveys`, with the laws of its parts.
+mod Tables
 pub mod Members
 mod Sequences
 mod OneOrder

@@ -35,6 +35,7 @@ fn sequence_of(bytes: &[u8], i: usize) -> (u16, u16, u16)
 }
 
 // The record of index i stands before the one of index i - 1: the first of kind, span and spacing in which the two differ is less.
+#[tactic(auto, using(crate::proofs::Sequences::tuple_before))]
 fn is_before(bytes: &[u8], i: usize) -> bool
     requires { (1 ≤ i) × (SURVEY_HEADER + RECORD * (i + 1) ≤ length bytes.now) }
     ensures { result ≡ before sequence_fields (record_at bytes.now i) (record_at bytes.now (i - 1)) }
