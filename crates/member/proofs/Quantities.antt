@@ -9,6 +9,7 @@ use native.Mathlib.Omega.{arith}
 use lib.Dec.{eqb}
 use Rattle.section.specs.Choose.{choose}
 use Rattle.section.specs.Fraction.{Sound, whole}
+use Rattle.section.specs.Units.{centimetres}
 use Rattle.section.specs.Species.{bending_table, shear_table, bending_tenths, shear_tenths}
 use Rattle.section.proofs.Choices.{of_choose}
 use Rattle.section.proofs.Order.{·_sound, whole_sound, tenths_sound, hundredths_sound}
@@ -73,17 +74,19 @@ pub record Close (m : Member) : Type 0 where
   pub width : field m MU_A ≤ 60
 
 module _ {m : Member} (a : AllowedMember m) where
-  -- every kind has a span and a dead load
-  pub sizes : (class : ℕ) → Sizes (terms_of m class)
+  -- every kind has a span and a dead load; at any load factor
+  pub sizes_at : (n : ℕ) → LoadFactor n → Sizes (record { n = n; q = record { 0 = field m DEAD_LOAD }; l = centimetres (field m SPAN) })
   unfolding used unused_by_kind unused_by_code bending suits range_of ranges
-  sizes class = by_kind a (λ j. field m KIND ≡ j → Sizes (terms_of m class)) (of 1 refl refl) (of 2 refl refl) (of 3 refl refl) (of 4 refl refl) (of 5 refl refl) (of 6 refl refl) (of 7 refl refl) refl
+  sizes_at n factor = by_kind a (λ j. field m KIND ≡ j → Sizes (record { n = n; q = record { 0 = field m DEAD_LOAD }; l = centimetres (field m SPAN) })) (of 1 refl refl) (of 2 refl refl) (of 3 refl refl) (of 4 refl refl) (of 5 refl refl) (of 6 refl refl) (of 7 refl refl) refl
     where
-      of : (j : ℕ) → every_code j (λ c. used j c SPAN) ≡ true → every_code j (λ c. used j c DEAD_LOAD) ≡ true → field m KIND ≡ j → Sizes (terms_of m class)
+      of : (j : ℕ) → every_code j (λ c. used j c SPAN) ≡ true → every_code j (λ c. used j c DEAD_LOAD) ≡ true → field m KIND ≡ j → Sizes (record { n = n; q = record { 0 = field m DEAD_LOAD }; l = centimetres (field m SPAN) })
       of j l q e =
-          let n = load_factor_range class in
           let span = in_range a j SPAN e (omega arith) l in
           let dead = in_range a j DEAD_LOAD e (omega arith) q in
-          record { load_factor_low = n.low; load_factor_high = n.high; dead_load = dead.1; span_low = omega (arith, span.0); span_high = span.1 }
+          record { load_factor_low = factor.low; load_factor_high = factor.high; dead_load = dead.1; span_low = omega (arith, span.0); span_high = span.1 }
+
+  pub sizes : (class : ℕ) → Sizes (terms_of m class)
+  sizes class = sizes_at _ (load_factor_range class)
 
   -- the rest by kind: each test says that the kind uses the field whatever its code
   pub species : (k : ℕ) → field m KIND ≡ k → every_code k (λ c. used k c SPECIES) ≡ true → (1 ≤ field m SPECIES) × (field m SPECIES ≤ 8)
