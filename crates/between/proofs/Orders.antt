@@ -42,7 +42,7 @@ each_grows rot deck lost dead = rw (and-false, or-false, and-true) (turned rot l
     turned false false c = or-false c
 
 -- what may grow: of kind 7 the dead load alone, of any other kind the section's rot and losses too
-may_grow_is : (kind code f : ℕ) → (eqb f DEAD_LOAD || (not (eqb kind 7) && (holds f (rot_fields code) || holds f (lost_fields code)))) ≡ may_grow kind code f
+pub may_grow_is : (kind code f : ℕ) → (eqb f DEAD_LOAD || (not (eqb kind 7) && (holds f (rot_fields code) || holds f (lost_fields code)))) ≡ may_grow kind code f
 unfolding may_grow must_stay wears rots
 may_grow_is kind code f = go (eqb kind 7) (eqb f DEAD_LOAD) refl
   where

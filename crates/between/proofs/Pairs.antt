@@ -51,7 +51,7 @@ module _ (bytes : List ℕ) where
 module _ (first second : List ℕ) where
   module _ (e : (read_survey first).answer ≡ (Ok tt)) (f : (read_survey second).answer ≡ (Ok tt)) where
     -- what was read is in order exactly when the files are
-    order_read : order_answer (read_survey first).survey.count (read_survey second).survey.count (member_at (read_survey first).survey.members) (member_at (read_survey second).survey.members) ≡ order_of first second
+    pub order_read : order_answer (read_survey first).survey.count (read_survey second).survey.count (member_at (read_survey first).survey.members) (member_at (read_survey second).survey.members) ≡ order_of first second
     order_read =
         rw (read_count first e, read_count second f)
         (elim (ℕ_discrete (count_of first) (count_of second)) [
@@ -106,7 +106,7 @@ module _ (v : Vehicle) (first second : List ℕ) (room : ℕ) where
     verdict_given e = rw (passed_all p, e, read_members first p.first_taken, read_members second p.second_taken)
 
   -- or one does
-  refusal_given : (r : Refusal) → first_refusal (between_tests v first second room) ≡ Err r → Err r ≡ answered_between v first second room
+  pub refusal_given : (r : Refusal) → first_refusal (between_tests v first second room) ≡ Err r → Err r ≡ answered_between v first second room
   unfolding answered_between
   refusal_given r e = rw e
 

@@ -57,7 +57,7 @@ module _ (first second : List ℕ) where
     unfolding joined
     written_given p e = rw (passed_all p, e)
 
-    refusal_given : (r : Refusal) → first_refusal (join_tests first second room) ≡ Err r → written_answer (Err r) ≡ joined first second room
+    pub refusal_given : (r : Refusal) → first_refusal (join_tests first second room) ≡ Err r → written_answer (Err r) ≡ joined first second room
     unfolding joined
     refusal_given r e = rw e
 
