@@ -8,6 +8,7 @@ ghost use Rattle.vehicles.specs.Padded.{Padded};
 ghost use Rattle.couple.specs.Couple.{may_follow, distance_behind, coupled_vehicle, couple};
 
 use files::Refusal;
+use files::answer::or_else;
 use files::fault::Fault;
 use member::record::{MOST_AXLES, Vehicle};
 use section::Cm;
@@ -59,7 +60,6 @@ pub fn couple(first: &[u8], second: &[u8], gap: Cm) -> Result<Vehicle, Refusal>
     let trailer = read_vehicle(second)?;
     let alike = may_follow(lorry, trailer, gap);
     let few = lorry.axles + trailer.axles <= MOST_AXLES;
-    Fault::Range.unless(alike)?;
-    Fault::Count.unless(few)?;
+    or_else(Fault::Range.unless(alike), Fault::Count.unless(few))?;
     Ok(coupled(lorry, trailer, gap))
 }
