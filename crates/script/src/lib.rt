@@ -80,6 +80,7 @@ fn cut(out: &mut Out, session: Session, bytes: &[u8]) -> Session {
     session
 }
 
+// The loads stand apart for the same reason: in `run_step` itself what they hand back would be cleared at every step.
 fn load_survey(out: &mut Out, session: Session, bytes: &[u8]) -> Session {
     calls::told(out, b"survey", session.load_survey(bytes))
 }
